@@ -1,0 +1,163 @@
+-- The items of a parameter piece, walked from a place on; their rule; and the way back from items to the piece.
+-- Assumes nothing.
+use Prim.Native.Nat.{ℕ, zero, suc, _+_, _-_, _≤_, _<_}
+use mathlib.Core.Bool.{Bool, true, false, not, _&&_, and-false, false≢true}
+use mathlib.Core.List.{List, [], _∷_, _++_, map}
+use mathlib.Core.Option.{none, some}
+use mathlib.Core.Path.{_≡_, refl, sym, _∙_, ap, ap₂}
+use native.Mathlib.Omega.{arith}
+use borrow.Author.Tests.{le-leb, lt-leb, ne-eqb}
+use lib.Dec.{leb, eqb}
+use lib.ListN.{length, getD, take, drop}
+use Rattle.grammar.specs.Text.{text, within, all, has, same, empty, Parts, find, split, parts, join, cut}
+use Rattle.grammar.specs.Bytes.{isNameByte, isValueByte, isText, inClass}
+use Rattle.grammar.specs.Pieces.{Slot}
+use Rattle.grammar.specs.Items.{Item, itemText, items, itemsOf, paramsText}
+use Rattle.grammar.specs.Limits.{mostItems}
+use Rattle.grammar.specs.Rules.{isName, isValue, isItem, isParams}
+use Rattle.grammar.specs.SortingSteps.{partsFrom}
+use Rattle.grammar.proofs.Tests.{both, and-true}
+use Rattle.grammar.specs.Claims.{Frees}
+use Rattle.grammar.proofs.Lists.{not-in, has-append, join-split, split-join, cut-join, join-cut}
+use Rattle.grammar.proofs.Splitting.{from-to, from-zero}
+
+-- ---- from a place on
+
+abbrev pub itemsFrom : List ℕ → ℕ → List Item
+itemsFrom s at = map (cut 61) (partsFrom 44 s at)
+
+pub items-start : (s : List ℕ) → items s ≡ itemsFrom s 0
+items-start s = ap (map (cut 61)) (sym (from-zero 44 s))
+
+pub items-to : (s : List ℕ) (at : ℕ) → at ≤ length s → (e : ℕ) → e ≡ at + find 44 (drop at s)
+    → itemsFrom s at ≡ cut 61 (take (e - at) (drop at s)) ∷ itemsFrom s (e + 1)
+items-to s at h e p = ap (map (cut 61)) (from-to 44 s at h e p)
+
+-- ---- the rule of a parameter piece, after n items that keep theirs
+
+abbrev pub fine : ℕ → List Item → Bool
+fine n is = leb (n + length is) mostItems && all isItem is
+
+pub fine-start : (s : List ℕ) → isParams s ≡ fine 0 (items s)
+unfolding isParams
+fine-start s = let z : length (items s) ≡ 0 + length (items s) = omega arith in ap (λ (n : ℕ). leb n mostItems && all isItem (items s)) z
+
+-- a step from the place `at`, where the next item ends at e
+module _ (n : ℕ) (s : List ℕ) (at : ℕ) (h : at ≤ length s) (e : ℕ) (p : e ≡ at + find 44 (drop at s)) where
+  abbrev rest : List Item
+  rest = itemsFrom s (e + 1)
+
+  pub fine-full : n ≡ mostItems → fine n (itemsFrom s at) ≡ false
+  fine-full q = rw (items-to s at h e p, q, lt-leb (16 + suc (length rest)) 16 (omega arith))
+
+  pub fine-bad : isItem (cut 61 (take (e - at) (drop at s))) ≡ false → fine n (itemsFrom s at) ≡ false
+  fine-bad i = rw (items-to s at h e p, i, and-false)
+
+  pub fine-on : isItem (cut 61 (take (e - at) (drop at s))) ≡ true → fine n (itemsFrom s at) ≡ fine (n + 1) (itemsFrom s (e + 1))
+  fine-on i =
+      let q : n + suc (length rest) ≡ n + 1 + length rest = omega arith in
+      rw (items-to s at h e p, i) (ap (λ (k : ℕ). leb k mostItems && all isItem rest) q)
+
+pub fine-end : (n : ℕ) → n ≤ mostItems → fine n [] ≡ true
+fine-end n h = rw (le-leb (n + 0) 16 (omega arith))
+
+-- ---- an item at an index
+
+pub item-at : (l : List (List ℕ)) (k : ℕ) → getD (map (cut 61) l) k ([], []) ≡ cut 61 (getD l k [])
+item-at [] k = refl
+item-at (p ∷ l) zero = refl
+item-at (p ∷ l) (suc k) = item-at l k
+
+-- a text of one byte
+pub same-one : (c : ℕ) (s : List ℕ) → same s (c ∷ []) ≡ (eqb (length s) 1 && eqb (getD s 0 0) c)
+same-one c [] = refl
+same-one c (a ∷ []) = go (eqb a c)
+  where
+    go : (b : Bool) → (b && true) ≡ b
+    go true = refl
+    go false = refl
+same-one c (a ∷ b ∷ s) = rw (and-false, ne-eqb (suc (suc (length s))) 1 (λ e. omega arith))
+
+-- ---- what the rule of an item says
+
+pub item-name : (i : Item) → isItem i ≡ true → isName (i .0) ≡ true
+unfolding isItem
+item-name i e = both (isName (i .0)) (not (same (i .0) (text "v"))) (both (isName (i .0) && not (same (i .0) (text "v"))) (isValue (i .1)) e .0) .0
+
+pub item-value : (i : Item) → isItem i ≡ true → isValue (i .1) ≡ true
+unfolding isItem
+item-value i e = both (isName (i .0) && not (same (i .0) (text "v"))) (isValue (i .1)) e .1
+
+pub name-bytes : (s : List ℕ) → isName s ≡ true → all isNameByte s ≡ true
+unfolding isText
+name-bytes s e = both (within 1 32 (length s)) (all isNameByte s) e .1
+
+pub value-bytes : (s : List ℕ) → isValue s ≡ true → all isValueByte s ≡ true
+unfolding isText
+value-bytes s e = both (within 1 128 (length s)) (all isValueByte s) e .1
+
+nonempty : (s : List ℕ) → isValue s ≡ true → empty s ≡ false
+unfolding isText
+nonempty [] e = absurd (false≢true e)
+nonempty (c ∷ s) e = refl
+
+-- ---- from the piece to its items and back
+
+uncut : (p : List ℕ) → isItem (cut 61 p) ≡ true → itemText (cut 61 p) ≡ p
+uncut p e = join-cut 61 p (nonempty (cut 61 p .1) (item-value (cut 61 p) e))
+
+uncut-all : (ps : List (List ℕ)) → all isItem (map (cut 61) ps) ≡ true → map itemText (map (cut 61) ps) ≡ ps
+uncut-all [] e = refl
+uncut-all (p ∷ ps) e =
+    let q = both (isItem (cut 61 p)) (all isItem (map (cut 61) ps)) e in
+    ap₂ {C = List (List ℕ)} _∷_ (uncut p (q .0)) (uncut-all ps (q .1))
+
+-- the text of items, a comma between two
+abbrev pub joined : Item → List Item → List ℕ
+joined i is = join 44 (itemText i) (map itemText is)
+
+pub join-items : (s : List ℕ) → all isItem (items s) ≡ true → joined (cut 61 (split 44 s .0)) (map (cut 61) (split 44 s .1)) ≡ s
+join-items s e =
+    let p = split 44 s in
+    let q = both (isItem (cut 61 (p .0))) (all isItem (map (cut 61) (p .1))) e in
+    ap₂ (join 44) (uncut (p .0) (q .0)) (uncut-all (p .1) (q .1)) ∙ join-split 44 s
+
+pub params-items : (s : List ℕ) → all isItem (items s) ≡ true → paramsText (items s) ≡ some s
+params-items s e = ap {B = Slot} some (join-items s e)
+
+-- a byte that no name and no value has stands in no text of an item, but for the equals sign
+module _ (d : ℕ) (n : isNameByte d ≡ false) (v : isValueByte d ≡ false) where
+  pub name-free : (s : List ℕ) → isName s ≡ true → has d s ≡ false
+  name-free s e = not-in isNameByte d n s (name-bytes s e)
+
+  pub value-free : (s : List ℕ) → isValue s ≡ true → has d s ≡ false
+  value-free s e = not-in isValueByte d v s (value-bytes s e)
+
+  module _ (q : eqb 61 d ≡ false) where
+    pub item-free : (i : Item) → isItem i ≡ true → has d (itemText i) ≡ false
+    item-free i e =
+        has-append d (i .0) (61 ∷ i .1) (name-free (i .0) (item-name i e)) (rw q (value-free (i .1) (item-value i e)))
+
+    pub items-free : (is : List Item) → all isItem is ≡ true → Frees d (map itemText is)
+    items-free [] e = tt
+    items-free (i ∷ is) e =
+        let k = both (isItem i) (all isItem is) e in
+        (item-free i (k .0), items-free is (k .1))
+
+recut : (i : Item) → isItem i ≡ true → cut 61 (itemText i) ≡ i
+unfolding isNameByte isValueByte
+recut i e = cut-join 61 (i .0) (i .1) (name-free 61 refl refl (i .0) (item-name i e))
+
+recut-all : (is : List Item) → all isItem is ≡ true → map (cut 61) (map itemText is) ≡ is
+recut-all [] e = refl
+recut-all (i ∷ is) e =
+    let q = both (isItem i) (all isItem is) e in
+    ap₂ {C = List Item} _∷_ (recut i (q .0)) (recut-all is (q .1))
+
+pub items-params : (is : List Item) → all isItem is ≡ true → itemsOf (paramsText is) ≡ is
+unfolding isNameByte isValueByte
+items-params [] e = refl
+items-params (i ∷ is) e =
+    let q = both (isItem i) (all isItem is) e in
+    let s = split-join 44 (itemText i) (map itemText is) (item-free 44 refl refl refl i (q .0)) (items-free 44 refl refl refl is (q .1)) in
+    ap {B = List Item} (λ (p : Parts). cut 61 (p .0) ∷ map (cut 61) (p .1)) s ∙ recut-all (i ∷ is) e

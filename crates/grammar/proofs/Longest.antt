@@ -1,0 +1,174 @@
+-- A string whose pieces keep their rules has at most 2,896 bytes, and a piece that is there is not empty.
+-- Assumes nothing.
+use Prim.Native.Nat.{ℕ, zero, suc, _≤_, _<_, _+_, _*_, _^_}
+use mathlib.Core.Bool.{Bool, true, false, not, _&&_, true≢false, false≢true}
+use mathlib.Core.List.{List, [], _∷_, _++_, map}
+use mathlib.Core.Option.{none, some}
+use mathlib.Core.Path.{_≡_, refl, sym, _∙_, ap}
+use native.Mathlib.Omega.{arith}
+use lib.Dec.{leb, eqb}
+use lib.ListN.{length, drop, length-append}
+use borrow.Author.Tests.{leb-true, eqb-true}
+use Rattle.grammar.specs.Text.{within, all, empty, split, join, cut, headIf, tailIf, listOf, broken}
+use Rattle.grammar.specs.Bytes.{inClass, isText}
+use Rattle.grammar.specs.B64.{canonical}
+use Rattle.grammar.specs.Decimal.{isDecimal, digits}
+use Rattle.grammar.specs.Numerals.{numeral, limitedReading, limitedNumber}
+use Rattle.grammar.specs.Limits.{longestString}
+use Rattle.grammar.specs.Pieces.{Slot, Pieces, isVersionPiece, afterFirst, pieces, slotOf, afterId, string}
+use Rattle.grammar.specs.Items.{Item, itemText, items}
+use Rattle.grammar.specs.Rules.{isName, isValue, isItem, isParams, isVersion, isOutput, ruleOf, starts, firstOf, pieceRows, grammarNumber}
+use Rattle.grammar.specs.declared.bytes.Class.{Class}
+use Rattle.grammar.specs.declared.decimal.Limited.{Limited}
+use Rattle.grammar.specs.declared.decimal.Limited.the-variants.{Malformed, Outside, Value}
+use Rattle.grammar.specs.declared.pieces.Piece.{Piece}
+use Rattle.grammar.specs.declared.pieces.Piece.the-variants.{Id, Version, Params, Salt, Output}
+use Rattle.grammar.proofs.Tests.{both, is-true, from-within}
+use Rattle.grammar.proofs.Rows.{Clear, clear}
+use Rattle.grammar.proofs.DecimalLaws.{length-digits}
+use Rattle.grammar.proofs.NumeralLaws.{digits-limited}
+use Rattle.grammar.proofs.ItemLaws.{item-name, item-value, join-items}
+use Rattle.grammar.proofs.PieceLaws.{string-pieces}
+use Rattle.grammar.proofs.Reading.{accepted-rows}
+
+-- ---- lengths
+
+-- the bytes of pieces, each with a separator before it
+total : List (List ℕ) → ℕ
+total [] = 0
+total (q ∷ qs) = suc (length q + total qs)
+
+join-length : (d : ℕ) (p : List ℕ) (qs : List (List ℕ)) → length (join d p qs) ≡ length p + total qs
+unfolding total
+join-length d p [] = omega arith
+join-length d p (q ∷ qs) = let h = join-length d q qs in omega (arith, length-append p (d ∷ join d q qs))
+
+text-length : (class : Class) (most : ℕ) (s : List ℕ) → isText class most s ≡ true → length s ≤ most
+unfolding isText
+text-length class most s e = from-within 1 most (length s) (both (within 1 most (length s)) (all (inClass class) s) e .0) .1
+
+item-length : (i : Item) → isItem i ≡ true → length (itemText i) ≤ 161
+item-length i e =
+    let n = text-length _ 32 (i .0) (item-name i e) in
+    let v = text-length _ 128 (i .1) (item-value i e) in
+    omega (arith, length-append (i .0) (61 ∷ i .1))
+
+items-total : (is : List Item) → all isItem is ≡ true → total (map itemText is) ≤ 162 * length is
+unfolding total
+items-total [] e = omega arith
+items-total (i ∷ is) e =
+    let q = both (isItem i) (all isItem is) e in
+    let h = item-length i (q .0) in
+    let k = items-total is (q .1) in
+    omega arith
+
+-- at most n bytes, if there
+abbrev Short : ℕ → Slot → Type 0
+Short n none = Unit {0}
+Short n (some t) = length t ≤ n
+
+add-slot : (n : ℕ) (s : Slot) (l : List (List ℕ)) → Short n s → total (listOf s ++ l) ≤ suc n + total l
+unfolding total
+add-slot n none l h = omega arith
+add-slot n (some t) l h = omega arith
+
+version-digits : (s : List ℕ) (r : Limited) → limitedReading 0 4294967295 s ≡ r → eqb (limitedNumber r) 0 ≡ true → length s ≤ 10
+version-digits s Malformed e z = absurd (false≢true z)
+version-digits s Outside e z = absurd (false≢true z)
+version-digits s (Value n) e z =
+    let p = digits-limited 0 4294967295 s n e in
+    let h : length (digits n) ≤ 10 = length-digits 9 n (omega (arith, p .2)) in
+    omega (arith, ap length (p .0))
+
+version-short : (s : Slot) → broken isVersionPiece s ≡ false → broken isVersion s ≡ false → Short 12 s
+unfolding isVersion
+version-short none p e = tt
+version-short (some []) p e = absurd (true≢false p)
+version-short (some (c ∷ [])) p e = absurd (true≢false p)
+version-short (some (c ∷ d ∷ t)) p e = let h = version-digits t (limitedReading 0 4294967295 t) refl (is-true _ e) in omega arith
+
+params-short : (s : Slot) → broken isParams s ≡ false → Short 2591 s
+unfolding isParams
+params-short none e = tt
+params-short (some s) e =
+    let q = both (leb (length (items s)) 16) (all isItem (items s)) (is-true (isParams s) e) in
+    let i = cut 61 (split 44 s .0) in
+    let is = map (cut 61) (split 44 s .1) in
+    let n = leb-true (length (items s)) 16 (q .0) in
+    let k = both (isItem i) (all isItem is) (q .1) in
+    let a = item-length i (k .0) in
+    let b = items-total is (k .1) in
+    let c = join-length 44 (itemText i) (map itemText is) in
+    let d = ap length (join-items s (q .1)) in
+    omega arith
+
+value-short : (s : Slot) → broken isValue s ≡ false → Short 128 s
+value-short none e = tt
+value-short (some s) e = text-length _ 128 s (is-true (isValue s) e)
+
+output-short : (s : Slot) → broken isOutput s ≡ false → Short 128 s
+unfolding isOutput
+output-short none e = tt
+output-short (some s) e = from-within 1 128 (length s) (both (within 1 128 (length s)) (canonical s) (is-true (isOutput s) e) .0) .1
+
+no-more : (l : List (List ℕ)) → not (empty l) ≡ false → total l ≡ 0
+unfolding total
+no-more [] e = refl
+no-more (x ∷ l) e = absurd (true≢false e)
+
+whole-length : (p : Pieces) → broken isVersionPiece (p .version) ≡ false → Clear (pieceRows p) → length (string p) ≤ longestString
+whole-length p v (a, (b, (c, (d, (e, (f, g)))))) =
+    let n = text-length _ 32 (p .id) (is-true (isName (p .id)) a) in
+    let l₄ = p .more in
+    let l₃ = listOf (p .output) ++ l₄ in
+    let l₂ = listOf (p .salt) ++ l₃ in
+    let l₁ = listOf (p .params) ++ l₂ in
+    let h₁ = add-slot 12 (p .version) l₁ (version-short (p .version) v b) in
+    let h₂ = add-slot 2591 (p .params) l₂ (params-short (p .params) c) in
+    let h₃ = add-slot 128 (p .salt) l₃ (value-short (p .salt) d) in
+    let h₄ = add-slot 128 (p .output) l₄ (output-short (p .output) e) in
+    let h₅ = no-more (p .more) f in
+    let h₆ = join-length 36 (p .id) (afterId p) in
+    omega arith
+
+-- what was taken by a test passes it
+taken : (f : List ℕ → Bool) (l : List (List ℕ)) → broken f (headIf f l) ≡ false
+taken f [] = refl
+taken f (x ∷ l) = go (f x) refl
+  where
+    go : (b : Bool) → f x ≡ b → broken f (headIf f (x ∷ l)) ≡ false
+    go true e = rw (e, e)
+    go false e = rw e
+
+sorted-version : (s : List ℕ) → broken isVersionPiece (pieces s .version) ≡ false
+unfolding pieces
+sorted-version s = taken isVersionPiece (split 36 (afterFirst s) .1)
+
+pub at-most : (s : List ℕ) → starts s ≡ true → firstOf (pieceRows (pieces s)) ≡ 0 → length s ≤ longestString
+at-most s h e =
+    let w = whole-length (pieces s) (sorted-version s) (clear (pieceRows (pieces s)) refl e) in
+    omega (arith, ap length (string-pieces s h))
+
+-- ---- no rule allows the empty text
+
+empty-breaks : (w : Piece) → ruleOf w [] ≡ false
+unfolding isText isItem isParams isVersion isOutput limitedReading numeral isDecimal
+empty-breaks Id = refl
+empty-breaks Version = refl
+empty-breaks Params = refl
+empty-breaks Salt = refl
+empty-breaks Output = refl
+
+kept : (p : Pieces) → Clear (pieceRows p) → (w : Piece) → broken (ruleOf w) (slotOf p w) ≡ false
+kept p c Id = c .0
+kept p c Version = c .1 .0
+kept p c Params = c .1 .1 .0
+kept p c Salt = c .1 .1 .1 .0
+kept p c Output = c .1 .1 .1 .1 .0
+
+filled : (w : Piece) (t : List ℕ) → broken (ruleOf w) (some t) ≡ false → 0 < length t
+filled w [] e = absurd (false≢true (sym (empty-breaks w) ∙ is-true (ruleOf w []) e))
+filled w (c ∷ t) e = omega arith
+
+pub never-empty : (s : List ℕ) → grammarNumber s ≡ 0 → (w : Piece) (t : List ℕ) → slotOf (pieces s) w ≡ some t → 0 < length t
+never-empty s e w t q = filled w t (rw q at (kept (pieces s) (accepted-rows s e .1) w))

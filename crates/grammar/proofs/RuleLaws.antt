@@ -1,0 +1,52 @@
+-- What the code of the rules needs: the version by its outcomes, a piece at its span, and the rows of a sorted string.
+-- Assumes nothing.
+use Prim.Native.Nat.{ℕ, zero, suc, _<_}
+use mathlib.Core.Path.{_≡_, refl, sym, _∙_, ap}
+use mathlib.Core.List.{List, [], _∷_}
+use mathlib.Core.Option.{none, some}
+use mathlib.Core.Bool.{Bool, true, false, not}
+use native.Mathlib.Omega.{arith}
+use lib.Dec.{eqb}
+use lib.ListN.{length, drop}
+use Rattle.grammar.specs.Text.{broken}
+use Rattle.grammar.specs.Decimal.{isDecimal}
+use Rattle.grammar.specs.Numerals.{numeral, limitedReading, limitedNumber}
+use Rattle.grammar.specs.Limits.{largestVersion}
+use Rattle.grammar.specs.Pieces.{pieces, slotOf}
+use Rattle.grammar.specs.Items.{items, itemsOf}
+use Rattle.grammar.specs.Rules.{isVersion, ruleOf, starts}
+use Rattle.grammar.specs.Layout.{placesOf, spanOf}
+use Rattle.grammar.specs.Parts.{partAt}
+use Rattle.grammar.specs.declared.decimal.Limited.{Limited}
+use Rattle.grammar.specs.declared.pieces.Piece.{Piece}
+use Rattle.grammar.specs.declared.pieces.Piece.the-variants.{Params}
+use Rattle.grammar.specs.declared.pieces.Span.{Span}
+use Rattle.grammar.specs.declared.pieces.Places.{Places}
+use Rattle.grammar.proofs.Reading.{slot-absent, slot-present}
+
+pub version-none : (s : List ℕ) → length s < 2 → isVersion s ≡ false
+unfolding isVersion limitedReading numeral isDecimal
+version-none [] h = refl
+version-none (c ∷ []) h = refl
+version-none (c ∷ d ∷ s) h = absurd (omega arith)
+
+pub version-is : (s : List ℕ) (r : Limited) → r ≡ limitedReading 0 largestVersion (drop 2 s) → isVersion s ≡ eqb (limitedNumber r) 0
+unfolding isVersion
+version-is s r e = rw e
+
+module _ (s : List ℕ) (h : starts s ≡ true) (w : Piece) (places : Places) (e : places ≡ placesOf (pieces s)) (v : Span) (q : v ≡ spanOf places w) where
+  same-place : v ≡ spanOf (placesOf (pieces s)) w
+  same-place = q ∙ ap (λ (x : Places). spanOf x w) e
+
+  pub keeps-absent : v .at ≡ 0 → broken (ruleOf w) (slotOf (pieces s) w) ≡ false
+  keeps-absent z = rw (slot-absent s h w (rw same-place at z))
+
+  pub keeps-present : (v .at ≡ 0 → ⊥) → broken (ruleOf w) (slotOf (pieces s) w) ≡ not (ruleOf w (partAt s v))
+  keeps-present z = rw (slot-present s h w (rw same-place at z), same-place)
+
+module _ (s : List ℕ) (h : starts s ≡ true) (places : Places) (e : places ≡ placesOf (pieces s)) where
+  pub items-absent : places .params .at ≡ 0 → length (itemsOf (pieces s .params)) ≡ 0
+  items-absent z = rw (slot-absent s h Params (rw e at z))
+
+  pub items-present : (places .params .at ≡ 0 → ⊥) → length (itemsOf (pieces s .params)) ≡ length (items (partAt s (places .params)))
+  items-present z = rw (slot-present s h Params (rw e at z), e)

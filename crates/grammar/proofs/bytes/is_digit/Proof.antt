@@ -1,0 +1,25 @@
+-- `grammar::bytes::is_digit` meets its contract: on each interval that the tests leave, the class is constant.
+-- Assumes nothing.
+use native.Mathlib.Omega.{arith}
+use mathlib.Core.Path.{sym}
+use mathlib.Core.Bool.{true, false}
+use mathlib.Core.List.{[]}
+use Rattle.grammar.specs.Bytes.{isDigit}
+use Rattle.grammar.proofs.Classes.{on}
+use Rattle.grammar.proofs.bytes.is_digit.Statement.{statement}
+use Rattle.grammar.proofs.bytes.is_digit.Tie as tie
+
+returns : tie.Need-returns
+unfolding isDigit
+returns c = sym (on isDigit true [] 48 10 tt (c .before .before .args .c) (omega arith) (omega arith) (λ e. e))
+
+returns-2 : tie.Need-returns-2
+unfolding isDigit
+returns-2 c = sym (on isDigit false [] 0 48 tt (c .before .args .c) (omega arith) (omega arith) (λ e. e))
+
+returns-3 : tie.Need-returns-3
+unfolding isDigit
+returns-3 c = sym (on isDigit false [] 58 198 tt (c .before .before .args .c) (omega arith) (omega arith) (λ e. e))
+
+pub is-digit-spec : {M : Type 1} → statement M
+is-digit-spec = tie.close (tie.spec returns returns-2 returns-3)

@@ -1,0 +1,33 @@
+-- `grammar::items::name_part` meets its contract. Assumes nothing.
+use Prim.Native.Nat.{_-_}
+use mathlib.Core.Path.{_≡_}
+use native.Mathlib.Omega.{arith}
+use borrow.Author.Needs.{needs}
+use denote.Ref.{now}
+use Rattle.grammar.specs.Text.{find}
+use Rattle.grammar.proofs.Scanning.{find-le}
+use Rattle.grammar.proofs.Splitting.{cut-before}
+use Rattle.grammar.proofs.items.name_part.Statement.{statement}
+use Rattle.grammar.proofs.items.name_part.Tie as tie
+
+next-at-requires : tie.Need-next-at-requires
+next-at-requires c κs = search needs
+
+sub-result : tie.Need-sub-result
+sub-result c = search needs
+
+part-result-start : tie.Need-part-result-start
+part-result-start c = search needs
+
+part-result-end : tie.Need-part-result-end
+part-result-end c = omega (arith, c .next-at .ensures, find-le 61 (now (c .before .before .args .item)))
+
+returns : tie.Need-returns
+returns c =
+    let s = now (c .before .before .before .args .item) in
+    let n : c .before .next-at .result - 0 ≡ find 61 s = omega (arith, c .before .next-at .ensures) in
+    rw (n, cut-before 61 s)
+
+pub name-part-spec : {M : Type 1} → statement M
+name-part-spec =
+    tie.close (tie.spec next-at-requires sub-result part-result-start part-result-end returns)

@@ -1,0 +1,68 @@
+-- `grammar::rules::is_version` meets its contract. Assumes nothing.
+use borrow.Author.Needs.{needs}
+use mathlib.Core.Path.{_≡_, sym, _∙_, ap}
+use denote.Ref.{now}
+use lib.Dec.{eqb}
+use Rattle.grammar.specs.Limits.{largestVersion}
+use Rattle.grammar.specs.Numerals.{limitedReading, limitedNumber}
+use Rattle.grammar.specs.Rules.{isVersion}
+use Rattle.grammar.specs.declared.decimal.Limited.{Limited}
+use Rattle.grammar.proofs.Writing.{tail-part}
+use Rattle.grammar.proofs.RuleLaws.{version-none, version-is}
+use Rattle.grammar.proofs.rules.is_version.Statement.{statement}
+use Rattle.grammar.proofs.rules.is_version.Tie as tie
+
+returns : tie.Need-returns
+returns c = sym (version-none (now (c .before .before .args .text)) (c .if1 .taken))
+
+sub-read-within : tie.Need-sub-read-within
+sub-read-within c = search needs
+
+part-read-within-start : tie.Need-part-read-within-start
+part-read-within-start c = search needs
+
+part-read-within-end : tie.Need-part-read-within-end
+part-read-within-end c = search needs
+
+read-within-requires : tie.Need-read-within-requires
+read-within-requires c κs = search needs
+
+enum-told : tie.Need-enum-told
+enum-told c = search needs
+
+enum-told-2 : tie.Need-enum-told-2
+enum-told-2 c = search needs
+
+enum-told-3 : tie.Need-enum-told-3
+enum-told-3 c = search needs
+
+-- the rule by the outcome of the reader
+said : (k : tie.After-read-within) → isVersion (now (k .before .before .before .before .args .text)) ≡ eqb (limitedNumber (k .read-within .result)) 0
+said k =
+    let s = now (k .before .before .before .before .args .text) in
+    version-is s (k .read-within .result) (k .read-within .ensures ∙ ap (limitedReading 0 largestVersion) (tail-part s 2))
+
+returns-2 : tie.Need-returns-2
+returns-2 c = sym (said (c .before .before) ∙ ap (λ (r : Limited). eqb (limitedNumber r) 0) (c .enum-told .given .1))
+
+returns-3 : tie.Need-returns-3
+returns-3 c = sym (said (c .before .before) ∙ ap (λ (r : Limited). eqb (limitedNumber r) 0) (c .enum-told2 .given .1))
+
+returns-4 : tie.Need-returns-4
+returns-4 c = sym (said (c .before .before) ∙ ap (λ (r : Limited). eqb (limitedNumber r) 0) (c .enum-told3 .given .1))
+
+pub is-version-spec : {M : Type 1} → statement M
+is-version-spec =
+    tie.close
+    (tie.spec
+    returns
+    sub-read-within
+    part-read-within-start
+    part-read-within-end
+    read-within-requires
+    enum-told
+    enum-told-2
+    enum-told-3
+    returns-2
+    returns-3
+    returns-4)

@@ -1,0 +1,68 @@
+-- `grammar::sorting::take_piece` meets its contract. Assumes nothing.
+use mathlib.Core.Path.{_∙_, sym}
+use native.Mathlib.Omega.{arith}
+use denote.Ref.{now}
+use Rattle.grammar.proofs.Scanning.{find-from-le}
+use Rattle.grammar.proofs.SortLaws.{stepped-past, stepped-to, stepped-not}
+use borrow.Author.Needs.{needs}
+use Rattle.grammar.proofs.sorting.take_piece.Statement.{statement}
+use Rattle.grammar.proofs.sorting.take_piece.Tie as tie
+
+returns : tie.Need-returns
+returns c =
+    let a = c .before .before .args in
+    stepped-past (now (a .s)) (a .which) (a .at) (c .if1 .taken)
+
+next-at-requires : tie.Need-next-at-requires
+next-at-requires c κs = search needs
+
+sub-is-next : tie.Need-sub-is-next
+sub-is-next c = search needs
+
+part-is-next-start : tie.Need-part-is-next-start
+part-is-next-start c = search needs
+
+part-is-next-end : tie.Need-part-is-next-end
+part-is-next-end c =
+    let a = c .before .before .before .args in
+    omega (arith, c .next-at .ensures, find-from-le 36 (now (a .s)) (a .at) (omega arith))
+
+is-next-requires : tie.Need-is-next-requires
+is-next-requires c κs = search needs
+
+sub-t14 : tie.Need-sub-t14
+sub-t14 c = search needs
+
+add-t17 : tie.Need-add-t17
+add-t17 c =
+    let a = c .before .before .before .before .before .before .args in
+    omega (arith, c .before .before .before .next-at .ensures, find-from-le 36 (now (a .s)) (a .at) (omega arith))
+
+returns-2 : tie.Need-returns-2
+returns-2 c =
+    let a = c .before .before .before .before .before .before .args in
+    let e = c .before .before .before .next-at .result in
+    stepped-to (now (a .s)) (a .which) (a .at) (omega arith) e (c .before .before .before .next-at .ensures)
+    (sym (c .before .is-next .ensures) ∙ c .if2 .taken)
+
+returns-3 : tie.Need-returns-3
+returns-3 c =
+    let a = c .before .before .before .before .before .before .args in
+    let e = c .before .before .before .next-at .result in
+    stepped-not (now (a .s)) (a .which) (a .at) (omega arith) e (c .before .before .before .next-at .ensures)
+    (sym (c .before .is-next .ensures) ∙ c .if2 .left)
+
+pub take-piece-spec : {M : Type 1} → statement M
+take-piece-spec =
+    tie.close
+    (tie.spec
+    returns
+    next-at-requires
+    sub-is-next
+    part-is-next-start
+    part-is-next-end
+    is-next-requires
+    sub-t14
+    add-t17
+    returns-2
+    returns-3)

@@ -1,0 +1,17 @@
+pub mod Text
+pub mod Bytes
+pub mod Units
+pub mod Place
+pub mod B64
+pub mod Decimal
+pub mod Numerals
+pub mod Limits
+pub mod Pieces
+pub mod Items
+pub mod Rules
+pub mod Layout
+pub mod Parts
+pub mod B64Steps
+pub mod DecimalSteps
+pub mod SortingSteps
+pub mod Claims

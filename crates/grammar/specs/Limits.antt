@@ -1,0 +1,21 @@
+-- The grammar's limits, each once.
+-- Assumes nothing.
+use Prim.Native.Nat.{ℕ}
+
+-- bytes of an id and of a parameter's name
+abbrev pub longestName : ℕ
+longestName = 32
+
+-- bytes of a value, of a salt and of an output
+abbrev pub longestValue : ℕ
+longestValue = 128
+
+abbrev pub mostItems : ℕ
+mostItems = 16
+
+abbrev pub largestVersion : ℕ
+largestVersion = 4294967295
+
+-- bytes of a whole string: the sum of the limits of its pieces, each with its `$`
+abbrev pub longestString : ℕ
+longestString = 2896

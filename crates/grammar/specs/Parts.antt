@@ -1,0 +1,35 @@
+-- A piece, and the name and the value of an item, as parts of the string: empty where the string is refused, the piece is not there
+-- or the index is past the last item.
+-- Assumes nothing.
+use Prim.Native.Nat.{ℕ, _+_}
+use mathlib.Core.Bool.{Bool, cond}
+use mathlib.Core.List.{List, []}
+use mathlib.Core.Option.{none, some}
+use lib.Dec.{leb, eqb}
+use lib.ListN.{length, take, drop, getD}
+use Rattle.grammar.specs.Pieces.{Slot, pieces, slotOf}
+use Rattle.grammar.specs.Items.{Item, itemsOf}
+use Rattle.grammar.specs.Rules.{grammarNumber}
+use Rattle.grammar.specs.declared.pieces.Piece.{Piece}
+use Rattle.grammar.specs.declared.pieces.Span.{Span}
+
+-- Free answer: the part of a span that does not lie inside is empty
+unfoldable pub partAt : List ℕ → Span → List ℕ
+partAt s w = cond (leb (w .at + w .len .0) (length s)) (take (w .len .0) (drop (w .at) s)) []
+
+abbrev pub isAccepted : List ℕ → Bool
+isAccepted s = eqb (grammarNumber s) 0
+
+abbrev pub textOf : Slot → List ℕ
+textOf none = []
+textOf (some s) = s
+
+unfoldable pub pieceText : List ℕ → Piece → List ℕ
+pieceText s w = cond (isAccepted s) (textOf (slotOf (pieces s) w)) []
+
+abbrev pub itemsIn : List ℕ → List Item
+itemsIn s = cond (isAccepted s) (itemsOf (pieces s .params)) []
+
+-- the item at an index from 0
+unfoldable pub itemAt : List ℕ → ℕ → Item
+itemAt s index = getD (itemsIn s) index ([], [])

@@ -1,0 +1,80 @@
+-- The pieces of a string, sorted. A string is `$` and then pieces parted by `$`; a piece is the bytes after its `$`.
+-- Assumes nothing.
+use Prim.Native.Nat.{ℕ}
+use mathlib.Core.Bool.{Bool, true, false, not, _&&_}
+use mathlib.Core.List.{List, [], _∷_, _++_}
+use mathlib.Core.Option.{Option, none, some}
+use lib.Dec.{eqb}
+use Rattle.grammar.specs.Text.{has, Parts, split, join, headIf, tailIf, listOf}
+use Rattle.grammar.specs.declared.pieces.Piece.{Piece}
+use Rattle.grammar.specs.declared.pieces.Piece.the-variants.{Id, Version, Params, Salt, Output}
+
+-- a text that may not be there
+abbrev pub Slot : Type 0
+Slot = Option (List ℕ)
+
+-- `more` are the pieces past the output
+pub record Pieces : Type 0 where
+  pub id : List ℕ
+  pub version : Slot
+  pub params : Slot
+  pub salt : Slot
+  pub output : Slot
+  pub more : List (List ℕ)
+
+-- begins with `v=`
+abbrev pub isVersionPiece : List ℕ → Bool
+isVersionPiece [] = false
+isVersionPiece (c ∷ []) = false
+isVersionPiece (c ∷ d ∷ s) = eqb c 118 && eqb d 61
+
+-- contains `=`
+abbrev pub isParamsPiece : List ℕ → Bool
+isParamsPiece s = has 61 s
+
+-- whether the next piece is the one asked for
+abbrev pub belongs : Piece → List ℕ → Bool
+belongs Id s = true
+belongs Version s = isVersionPiece s
+belongs Params s = isParamsPiece s
+belongs Salt s = true
+belongs Output s = true
+
+-- The first piece is the id. If the next begins with `v=` it is the version. If the piece after those contains `=` it is the parameters.
+-- What remains is the salt, then the output.
+abbrev pub sort : Parts → Pieces
+sort p =
+    let afterVersion = tailIf (belongs Version) (p .1) in
+    let afterParams = tailIf (belongs Params) afterVersion in
+    let afterSalt = tailIf (belongs Salt) afterParams in
+    record {
+      id = p .0;
+      version = headIf (belongs Version) (p .1);
+      params = headIf (belongs Params) afterVersion;
+      salt = headIf (belongs Salt) afterParams;
+      output = headIf (belongs Output) afterSalt;
+      more = tailIf (belongs Output) afterSalt;
+    }
+
+-- the bytes after the first, which row 1 wants to be `$`
+abbrev pub afterFirst : List ℕ → List ℕ
+afterFirst [] = []
+afterFirst (c ∷ s) = s
+
+unfoldable pub pieces : List ℕ → Pieces
+pieces s = sort (split 36 (afterFirst s))
+
+abbrev pub slotOf : Pieces → Piece → Slot
+slotOf p Id = some (p .id)
+slotOf p Version = p .version
+slotOf p Params = p .params
+slotOf p Salt = p .salt
+slotOf p Output = p .output
+
+-- the pieces after the id, in order
+abbrev pub afterId : Pieces → List (List ℕ)
+afterId p = listOf (p .version) ++ (listOf (p .params) ++ (listOf (p .salt) ++ (listOf (p .output) ++ p .more)))
+
+-- the string of pieces: a `$` before each
+abbrev pub string : Pieces → List ℕ
+string p = 36 ∷ join 36 (p .id) (afterId p)

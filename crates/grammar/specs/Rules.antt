@@ -1,0 +1,90 @@
+-- The rule of each piece, and rows 1 to 7 of the numbers for bad input.
+-- Assumes nothing.
+use Prim.Native.Nat.{ℕ}
+use mathlib.Core.Bool.{Bool, true, false, not, cond, _&&_, _||_}
+use mathlib.Core.List.{List, [], _∷_}
+use lib.Dec.{leb, eqb}
+use lib.ListN.{length, drop}
+use Rattle.grammar.specs.Text.{text, within, all, same, empty, broken}
+use Rattle.grammar.specs.Bytes.{isText}
+use Rattle.grammar.specs.B64.{canonical}
+use Rattle.grammar.specs.Numerals.{limitedReading, limitedNumber}
+use Rattle.grammar.specs.Limits.{longestName, longestValue, mostItems, largestVersion, longestString}
+use Rattle.grammar.specs.Pieces.{Pieces, pieces}
+use Rattle.grammar.specs.Items.{Item, items}
+use Rattle.grammar.specs.declared.bytes.Class.{Class}
+use Rattle.grammar.specs.declared.bytes.Class.the-variants.{Name, Value}
+use Rattle.grammar.specs.declared.pieces.Piece.{Piece}
+use Rattle.grammar.specs.declared.pieces.Piece.the-variants.{Id, Version, Params, Salt, Output}
+
+-- an id, or the name of a parameter
+abbrev pub isName : List ℕ → Bool
+isName s = isText Name longestName s
+
+-- the value of a parameter, or a salt
+abbrev pub isValue : List ℕ → Bool
+isValue s = isText Value longestValue s
+
+-- after `v=` a shortest decimal, 0 to 4,294,967,295
+unfoldable pub isVersion : List ℕ → Bool
+isVersion s = eqb (limitedNumber (limitedReading 0 largestVersion (drop 2 s))) 0
+
+-- no parameter is named `v`
+unfoldable pub isItem : Item → Bool
+isItem i = isName (i .0) && not (same (i .0) (text "v")) && isValue (i .1)
+
+-- 1 to 16 items; there is always one. Names are not compared with each other
+unfoldable pub isParams : List ℕ → Bool
+isParams s = leb (length (items s)) mostItems && all isItem (items s)
+
+-- 1 to 128 characters, a canonical B64 text
+unfoldable pub isOutput : List ℕ → Bool
+isOutput s = within 1 longestValue (length s) && canonical s
+
+abbrev pub ruleOf : Piece → List ℕ → Bool
+ruleOf Id s = isName s
+ruleOf Version s = isVersion s
+ruleOf Params s = isParams s
+ruleOf Salt s = isValue s
+ruleOf Output s = isOutput s
+
+-- the first byte is `$`
+abbrev pub starts : List ℕ → Bool
+starts [] = false
+starts (c ∷ s) = eqb c 36
+
+-- ---- rows
+
+-- a row: its number, and whether it applies
+pub record Row : Type 0 where
+  pub number : ℕ
+  pub applies : Bool
+
+abbrev pub row : ℕ → Bool → Row
+row n b = record { number = n; applies = b }
+
+-- the first row that applies is the number; 0 where none does
+abbrev pub firstOf : List Row → ℕ
+firstOf [] = 0
+firstOf (r ∷ rs) = cond (r .applies) (r .number) (firstOf rs)
+
+-- no bytes, more than 2,896, or first byte not `$`
+unfoldable pub badWhole : List ℕ → Bool
+badWhole s = empty s || not (leb (length s) longestString) || not (starts s)
+
+abbrev pub pieceRows : Pieces → List Row
+pieceRows p =
+    row 2 (not (isName (p .id)))
+    ∷ row 3 (broken isVersion (p .version))
+    ∷ row 4 (broken isParams (p .params))
+    ∷ row 5 (broken isValue (p .salt))
+    ∷ row 6 (broken isOutput (p .output))
+    ∷ row 7 (not (empty (p .more)))
+    ∷ []
+
+abbrev pub grammarRows : List ℕ → List Row
+grammarRows s = row 1 (badWhole s) ∷ pieceRows (pieces s)
+
+-- the grammar reader's number
+unfoldable pub grammarNumber : List ℕ → ℕ
+grammarNumber s = firstOf (grammarRows s)

@@ -1,0 +1,31 @@
+-- What the private steps of the sorting promise each other. Nothing here is a rule: no public contract cites it.
+-- Assumes nothing.
+use Prim.Native.Nat.{ℕ, _+_}
+use mathlib.Core.Path.{_≡_}
+use mathlib.Core.Bool.{Bool, not, cond}
+use mathlib.Core.List.{List, []}
+use lib.Dec.{leb}
+use lib.ListN.{length, drop}
+use Rattle.grammar.specs.Text.{empty, parts, headIf, tailIf}
+use Rattle.grammar.specs.Pieces.{Slot, Pieces, belongs}
+use Rattle.grammar.specs.Layout.{spanFrom, past, placesOf}
+use Rattle.grammar.specs.declared.pieces.Piece.{Piece}
+use Rattle.grammar.specs.declared.pieces.Span.{Span}
+use Rattle.grammar.specs.declared.sorting.Sorted.{Sorted}
+
+-- the parts between the separators from a place on; none past the end
+unfoldable pub partsFrom : ℕ → List ℕ → ℕ → List (List ℕ)
+partsFrom d s at = cond (leb at (length s)) (parts d (drop at s)) []
+
+-- the piece asked for, if it is the next
+abbrev pub nextSlot : List ℕ → Piece → ℕ → Slot
+nextSlot s w at = headIf (belongs w) (partsFrom 36 s at)
+
+-- a step of the sorting from a place: the piece asked for, and where the pieces left begin
+pub record Stepped (s : List ℕ) (w : Piece) (at : ℕ) (span : Span) (next : ℕ) : Type 0 where
+  pub found : span ≡ spanFrom at (nextSlot s w at)
+  pub next-is : next ≡ past at (nextSlot s w at)
+  pub left : partsFrom 36 s next ≡ tailIf (belongs w) (partsFrom 36 s at)
+
+abbrev pub sortedOf : Pieces → Sorted
+sortedOf p = record { places = placesOf p; more = not (empty (p .more)) }

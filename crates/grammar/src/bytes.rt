@@ -1,0 +1,58 @@
+// The classes of bytes that the rules name.
+use crate::limits::LONGEST_NAME;
+use crate::scan::is_text;
+ghost use mathlib.Core.Path.{_≡_};
+ghost use Rattle.grammar.specs.Bytes.{isDigit, isNameByte, isValueByte, inClass};
+ghost use Rattle.grammar.specs.Rules.{isName};
+
+pub enum Class {
+    Name,
+    Value,
+    Digit,
+}
+
+// A byte of an id or of a parameter's name.
+pub fn is_name_byte(c: u8) -> bool
+    ensures { λ r. ⌜ r ≡ isNameByte c ⌝ }
+{
+    match c {
+        b'a'..=b'z' | b'0'..=b'9' | b'-' => true,
+        _ => false,
+    }
+}
+
+// A byte of a parameter's value or of a salt.
+pub fn is_value_byte(c: u8) -> bool
+    ensures { λ r. ⌜ r ≡ isValueByte c ⌝ }
+{
+    match c {
+        b'a'..=b'z' | b'A'..=b'Z' | b'0'..=b'9' | b'/' | b'+' | b'.' | b'-' => true,
+        _ => false,
+    }
+}
+
+fn is_digit(c: u8) -> bool
+    ensures { λ r. ⌜ r ≡ isDigit c ⌝ }
+{
+    match c {
+        b'0'..=b'9' => true,
+        _ => false,
+    }
+}
+
+pub fn in_class(class: Class, c: u8) -> bool
+    ensures { λ r. ⌜ r ≡ inClass class c ⌝ }
+{
+    match class {
+        Class::Name => is_name_byte(c),
+        Class::Value => is_value_byte(c),
+        Class::Digit => is_digit(c),
+    }
+}
+
+// An id or the name of a parameter: 1 to 32 bytes of their class.
+pub fn is_name(text: &[u8]) -> bool
+    ensures { λ r. ⌜ r ≡ isName (now (text .entry)) ⌝ }
+{
+    is_text(text, Class::Name, LONGEST_NAME)
+}

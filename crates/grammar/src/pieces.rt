@@ -1,0 +1,89 @@
+// The grammar reader: where the pieces of a string stand, or the number of the row that refuses it.
+use crate::rules::bad_whole;
+use crate::rules::items_of;
+use crate::rules::number_of;
+use crate::sorting::sort;
+use crate::units::Chars;
+ghost use mathlib.Core.Path.{_≡_};
+ghost use Rattle.grammar.specs.Layout.{spanOf, refusedLayout, layout};
+
+pub enum Piece {
+    Id,
+    Version,
+    Params,
+    Salt,
+    Output,
+}
+
+// Where a piece stands: its place and its length; 0 and 0 for an absent one.
+pub struct Span {
+    pub at: usize,
+    pub len: Chars,
+}
+
+pub struct Places {
+    pub id: Span,
+    pub version: Span,
+    pub params: Span,
+    pub salt: Span,
+    pub output: Span,
+}
+
+// What the reader gives; on refusal every place, length and count is 0.
+pub struct Layout {
+    pub number: u8,
+    pub places: Places,
+    pub items: usize,
+}
+
+pub fn span_of(places: Places, which: Piece) -> Span
+    ensures { λ r. ⌜ r ≡ spanOf places which ⌝ }
+{
+    match which {
+        Piece::Id => places.id,
+        Piece::Version => places.version,
+        Piece::Params => places.params,
+        Piece::Salt => places.salt,
+        Piece::Output => places.output,
+    }
+}
+
+fn refused(number: u8) -> Layout
+    ensures { λ r. ⌜ r ≡ refusedLayout number ⌝ }
+{
+    let none = Span {
+        at: 0,
+        len: Chars(0),
+    };
+    Layout {
+        number,
+        places: Places {
+            id: none,
+            version: none,
+            params: none,
+            salt: none,
+            output: none,
+        },
+        items: 0,
+    }
+}
+
+pub fn read(s: &[u8]) -> Layout
+    ensures { λ r. ⌜ r ≡ layout (now (s .entry)) ⌝ }
+{
+    if bad_whole(s) {
+        return refused(1);
+    }
+    let sorted = sort(s);
+    let number = number_of(s, sorted);
+    if number != 0 {
+        return refused(number);
+    }
+    let places = sorted.places;
+    let items = items_of(s, places);
+    Layout {
+        number: 0,
+        places,
+        items,
+    }
+}

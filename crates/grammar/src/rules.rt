@@ -1,0 +1,125 @@
+// The rule of each piece, and rows 1 to 7.
+use crate::b64::is_canonical;
+use crate::bytes::Class;
+use crate::bytes::is_name;
+use crate::decimal::Limited;
+use crate::decimal::read_within;
+use crate::items::is_params;
+use crate::items::item_count;
+use crate::limits::LARGEST_VERSION;
+use crate::limits::LONGEST_STRING;
+use crate::limits::LONGEST_VALUE;
+use crate::parts::part;
+use crate::pieces::Piece;
+use crate::pieces::Places;
+use crate::pieces::span_of;
+use crate::scan::is_text;
+use crate::sorting::Sorted;
+ghost use mathlib.Core.Path.{_≡_};
+ghost use mathlib.Core.Bool.{true};
+ghost use lib.ListN.{length};
+ghost use Rattle.grammar.specs.Text.{broken};
+ghost use Rattle.grammar.specs.Pieces.{pieces, slotOf};
+ghost use Rattle.grammar.specs.Items.{itemsOf};
+ghost use Rattle.grammar.specs.Rules.{isVersion, isOutput, ruleOf, starts, badWhole, firstOf, pieceRows};
+ghost use Rattle.grammar.specs.Layout.{placesOf};
+ghost use Rattle.grammar.specs.SortingSteps.{sortedOf};
+
+// Row 1.
+pub fn bad_whole(s: &[u8]) -> bool
+    ensures { λ r. ⌜ r ≡ badWhole (now (s .entry)) ⌝ }
+{
+    if s.len() < 1 {
+        return true;
+    }
+    if LONGEST_STRING < s.len() {
+        return true;
+    }
+    s[0] != b'$'
+}
+
+fn is_version(text: &[u8]) -> bool
+    ensures { λ r. ⌜ r ≡ isVersion (now (text .entry)) ⌝ }
+{
+    if text.len() < 2 {
+        return false;
+    }
+    match read_within(&text[2..], 0, LARGEST_VERSION) {
+        Limited::Malformed => false,
+        Limited::Outside => false,
+        Limited::Value(_) => true,
+    }
+}
+
+fn is_output(text: &[u8]) -> bool
+    ensures { λ r. ⌜ r ≡ isOutput (now (text .entry)) ⌝ }
+{
+    if text.len() < 1 {
+        return false;
+    }
+    if LONGEST_VALUE < text.len() {
+        return false;
+    }
+    is_canonical(text)
+}
+
+// Whether a text keeps the rule of its piece.
+fn keeps_rule(text: &[u8], which: Piece) -> bool
+    ensures { λ r. ⌜ r ≡ ruleOf which (now (text .entry)) ⌝ }
+{
+    match which {
+        Piece::Id => is_name(text),
+        Piece::Version => is_version(text),
+        Piece::Params => is_params(text),
+        Piece::Salt => is_text(text, Class::Value, LONGEST_VALUE),
+        Piece::Output => is_output(text),
+    }
+}
+
+// Rows 2 to 6: whether a piece that is there breaks its rule.
+fn breaks(s: &[u8], places: Places, which: Piece) -> bool
+    requires { ⌜ (starts (now s) ≡ true) × (places ≡ placesOf (pieces (now s))) ⌝ }
+    ensures { λ r. ⌜ r ≡ broken (ruleOf which) (slotOf (pieces (now (s .entry))) which) ⌝ }
+{
+    let span = span_of(places, which);
+    if span.at == 0 {
+        return false;
+    }
+    !keeps_rule(part(s, span), which)
+}
+
+// Rows 2 to 7: the first that applies.
+pub fn number_of(s: &[u8], sorted: Sorted) -> u8
+    requires { ⌜ (starts (now s) ≡ true) × (sorted ≡ sortedOf (pieces (now s))) ⌝ }
+    ensures { λ r. ⌜ r ≡ firstOf (pieceRows (pieces (now (s .entry)))) ⌝ }
+{
+    let places = sorted.places;
+    if breaks(s, places, Piece::Id) {
+        return 2;
+    }
+    if breaks(s, places, Piece::Version) {
+        return 3;
+    }
+    if breaks(s, places, Piece::Params) {
+        return 4;
+    }
+    if breaks(s, places, Piece::Salt) {
+        return 5;
+    }
+    if breaks(s, places, Piece::Output) {
+        return 6;
+    }
+    if sorted.more { 7 } else { 0 }
+}
+
+// The number of items; 0 where there is no parameter piece.
+pub fn items_of(s: &[u8], places: Places) -> usize
+    requires { ⌜ (starts (now s) ≡ true) × (places ≡ placesOf (pieces (now s))) ⌝ }
+    ensures { λ r. ⌜ r ≡ length (itemsOf (pieces (now (s .entry)) .params)) ⌝ }
+{
+    let span = places.params;
+    if span.at == 0 {
+        return 0;
+    }
+    item_count(part(s, span))
+}

@@ -1,0 +1,50 @@
+// Walks over a text: the next separator, and whether every byte is of a class.
+use crate::bytes::Class;
+use crate::bytes::in_class;
+ghost use mathlib.Core.Path.{_≡_};
+ghost use Prim.Native.Nat.{_+_};
+ghost use lib.ListN.{drop};
+ghost use Rattle.grammar.specs.Text.{find, all};
+ghost use Rattle.grammar.specs.Bytes.{inClass, isText};
+
+// The place of the first `byte` from `from` on; the end where there is none.
+pub fn next_at(s: &[u8], from: usize, byte: u8) -> usize
+    ensures { λ r. ⌜ r ≡ from + find byte (drop from (now (s .entry))) ⌝ }
+{
+    let mut i = from;
+    while i < s.len() {
+        if s[i] == byte {
+            return i;
+        }
+        i += 1;
+    }
+    i
+}
+
+// Whether every byte is of the class.
+pub fn all_of(text: &[u8], class: Class) -> bool
+    ensures { λ r. ⌜ r ≡ all (inClass class) (now (text .entry)) ⌝ }
+{
+    let mut i = 0;
+    while i < text.len() {
+        let c = text[i];
+        if !in_class(class, c) {
+            return false;
+        }
+        i += 1;
+    }
+    true
+}
+
+// Whether there are 1 to `most` bytes, each of the class.
+pub fn is_text(text: &[u8], class: Class, most: usize) -> bool
+    ensures { λ r. ⌜ r ≡ isText class most (now (text .entry)) ⌝ }
+{
+    if text.len() < 1 {
+        return false;
+    }
+    if most < text.len() {
+        return false;
+    }
+    all_of(text, class)
+}

@@ -1,0 +1,173 @@
+// Worked examples, run: RFC 4648's test vectors without padding, decimals on either side of their rule, and strings of the grammar.
+// Buffers are filled with dots and lent from a place in their middle, so that the bytes around what is written show.
+use grammar::parts::item_name;
+use grammar::parts::item_value;
+use grammar::parts::piece;
+use grammar::pieces::Piece;
+use libc::STDOUT_FILENO;
+
+fn show(text: &[u8]) {
+    io::write_all(STDOUT_FILENO, text);
+}
+
+fn show_number(n: u64) {
+    io::print_decimal(STDOUT_FILENO, n);
+}
+
+// bytes, number, count, the buffer
+fn encoded(bytes: &[u8]) {
+    let mut buf = [46u8; 12];
+    let r = grammar::b64::encode(bytes, &mut buf, 2);
+    show(b"encode\t");
+    show(bytes);
+    show(b"\t");
+    show_number(r.number as u64);
+    show(b"\t");
+    show_number(r.count.0 as u64);
+    show(b"\t");
+    show(&buf);
+    show(b"\n");
+}
+
+// text, number, count, the buffer
+fn decoded(text: &[u8]) {
+    let mut buf = [46u8; 10];
+    let r = grammar::b64::decode(text, &mut buf, 2);
+    show(b"decode\t");
+    show(text);
+    show(b"\t");
+    show_number(r.number as u64);
+    show(b"\t");
+    show_number(r.count.0 as u64);
+    show(b"\t");
+    show(&buf);
+    show(b"\n");
+}
+
+// text, number, the number read written again, with its count and the buffer
+fn decimal(text: &[u8]) {
+    let d = grammar::decimal::read_decimal(text);
+    let mut buf = [46u8; 24];
+    let w = grammar::decimal::write_decimal(d.value, &mut buf, 2);
+    show(b"decimal\t");
+    show(text);
+    show(b"\t");
+    show_number(d.number as u64);
+    show(b"\t");
+    show_number(w.count.0 as u64);
+    show(b"\t");
+    show(&buf);
+    show(b"\n");
+}
+
+// string, number, items, the five pieces, the name and the value of the items at 0 and 1
+fn string(s: &[u8]) {
+    let layout = grammar::pieces::read(s);
+    show(b"string\t");
+    show(s);
+    show(b"\t");
+    show_number(layout.number as u64);
+    show(b"\t");
+    show_number(layout.items as u64);
+    show(b"\t");
+    show(piece(s, Piece::Id));
+    show(b"|");
+    show(piece(s, Piece::Version));
+    show(b"|");
+    show(piece(s, Piece::Params));
+    show(b"|");
+    show(piece(s, Piece::Salt));
+    show(b"|");
+    show(piece(s, Piece::Output));
+    show(b"\t");
+    show(item_name(s, 0));
+    show(b":");
+    show(item_value(s, 0));
+    show(b" ");
+    show(item_name(s, 1));
+    show(b":");
+    show(item_value(s, 1));
+    show(b"\n");
+}
+
+fn b64_vectors() {
+    encoded(b"");
+    encoded(b"f");
+    encoded(b"fo");
+    encoded(b"foo");
+    encoded(b"foob");
+    encoded(b"fooba");
+    encoded(b"foobar");
+    encoded(b"foobarf");
+    encoded(b"foobarfo");
+    decoded(b"");
+    decoded(b"Zg");
+    decoded(b"Zm8");
+    decoded(b"Zm9v");
+    decoded(b"Zm9vYg");
+    decoded(b"Zm9vYmE");
+    decoded(b"Zm9vYmFy");
+    decoded(b"Zm9vYmFyZm8");
+    decoded(b"Zm9vYmFyZm9v");
+    decoded(b"Zg==");
+    decoded(b"Z");
+    decoded(b"Zh");
+    decoded(b"Zm9");
+    decoded(b"Zm9v\n");
+    decoded(b"Zm9-");
+}
+
+fn decimal_vectors() {
+    decimal(b"0");
+    decimal(b"");
+    decimal(b"-");
+    decimal(b"-0");
+    decimal(b"+1");
+    decimal(b"00");
+    decimal(b"05");
+    decimal(b"-5");
+    decimal(b"--5");
+    decimal(b"5 ");
+    decimal(b"4294967296");
+    decimal(b"9223372036854775807");
+    decimal(b"9223372036854775808");
+    decimal(b"-9223372036854775808");
+    decimal(b"-9223372036854775809");
+    decimal(b"99999999999999999999999999999999");
+}
+
+fn string_vectors() {
+    string(b"$argon2i$m=120,t=5000,p=2$/LtFjH5rVL8");
+    string(
+        b"$argon2id$v=19$m=65536,t=2,p=1$gZiV/M1gPc22ElAH/Jh1Hw$CWOrkoo7oJBQ/iyh7uJ0LO2aLEfrHwTWllSAxT0zRno",
+    );
+    string(b"$a");
+    string(b"$a$m=1,m=1");
+    string(b"$a$salt.-");
+    string(b"");
+    string(b"a");
+    string(b"$");
+    string(b"$A");
+    string(b"$abcdefghijklmnopqrstuvwxyz-012345$s");
+    string(b"$a$v=");
+    string(b"$a$v=01");
+    string(b"$a$v=-0");
+    string(b"$a$v=4294967296");
+    string(b"$argon2i$v=19,m=8,t=1,p=1");
+    string(b"$a$v=1$v=1");
+    string(b"$a$b=2,v=3");
+    string(b"$a$m=1,");
+    string(b"$a$m=");
+    string(b"$a$a=1,b=2,c=3,d=4,e=5,f=6,g=7,h=8,i=9,j=1,k=2,l=3,m=4,n=5,o=6,p=7,q=8");
+    string(b"$pbkdf2s2$");
+    string(b"$a$salt$Zh");
+    string(b"$a$salt$");
+    string(b"$a$salt$Zg$");
+    string(b"$a$s,t$Zg$");
+}
+
+fn main() {
+    b64_vectors();
+    decimal_vectors();
+    string_vectors();
+}
