@@ -7,7 +7,7 @@ use Rattle.grammar.specs.Decimal.{isUnsigned, valueFrom, value, isDecima
 use Rattle.grammar.specs.Numerals.{numeral, limitedReading}
 use Rattle.grammar.specs.Pieces.{pieces}
 use Rattle.grammar.specs.Rules.{isItem, isParams, isVersion, isOutput, badWhole, grammarNumber}
-use Rattle.grammar.specs.Claims.{B64Claims, DecimalClaims, PieceClaims, longest}
+use Rattle.grammar.specs.Claims.{B64Claims, DecimalClaims, PieceClaims}
 use Rattle.grammar.proofs.B64Laws.{letter-sextet, sextet-letter, encode-decode, bytes-decode, decode-encode, canonical-encode, length-decode, length-encode}
 use Rattle.grammar.proofs.NumeralLaws.{decimal-back, back-decimal, numeral-text, text-numeral, limited-digits, digits-limited}
 use Rattle.grammar.proofs.Lists.{split-join}

@@ -1,22 +1,22 @@
 -- The items of a parameter piece, walked from a place on; their rule; and the way back from items to the piece.
 -- Assumes nothing.
-use Prim.Native.Nat.{ℕ, zero, suc, _+_, _-_, _≤_, _<_}
+use Prim.Native.Nat.{ℕ, zero, suc, _+_, _-_, _≤_}
 use mathlib.Core.Bool.{Bool, true, false, not, _&&_, and-false, false≢true}
-use mathlib.Core.List.{List, [], _∷_, _++_, map}
-use mathlib.Core.Option.{none, some}
+use mathlib.Core.List.{List, [], _∷_, map}
+use mathlib.Core.Option.{some}
 use mathlib.Core.Path.{_≡_, refl, sym, _∙_, ap, ap₂}
 use native.Mathlib.Omega.{arith}
 use borrow.Author.Tests.{le-leb, lt-leb, ne-eqb}
 use lib.Dec.{leb, eqb}
 use lib.ListN.{length, getD, take, drop}
-use Rattle.grammar.specs.Text.{text, within, all, has, same, empty, Parts, find, split, parts, join, cut}
-use Rattle.grammar.specs.Bytes.{isNameByte, isValueByte, isText, inClass}
+use Rattle.grammar.specs.Text.{text, within, all, has, same, empty, Parts, find, split, join, cut}
+use Rattle.grammar.specs.Bytes.{isNameByte, isValueByte, isText}
 use Rattle.grammar.specs.Pieces.{Slot}
 use Rattle.grammar.specs.Items.{Item, itemText, items, itemsOf, paramsText}
 use Rattle.grammar.specs.Limits.{mostItems}
 use Rattle.grammar.specs.Rules.{isName, isValue, isItem, isParams}
 use Rattle.grammar.specs.SortingSteps.{partsFrom}
-use Rattle.grammar.proofs.Tests.{both, and-true}
+use Rattle.grammar.proofs.Tests.{both}
 use Rattle.grammar.specs.Claims.{Frees}
 use Rattle.grammar.proofs.Lists.{not-in, has-append, join-split, split-join, cut-join, join-cut}
 use Rattle.grammar.proofs.Splitting.{from-to, from-zero}

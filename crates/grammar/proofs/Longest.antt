@@ -1,15 +1,15 @@
 -- A string whose pieces keep their rules has at most 2,896 bytes, and a piece that is there is not empty.
 -- Assumes nothing.
-use Prim.Native.Nat.{ℕ, zero, suc, _≤_, _<_, _+_, _*_, _^_}
-use mathlib.Core.Bool.{Bool, true, false, not, _&&_, true≢false, false≢true}
+use Prim.Native.Nat.{ℕ, suc, _≤_, _<_, _+_, _*_}
+use mathlib.Core.Bool.{Bool, true, false, not, true≢false, false≢true}
 use mathlib.Core.List.{List, [], _∷_, _++_, map}
 use mathlib.Core.Option.{none, some}
 use mathlib.Core.Path.{_≡_, refl, sym, _∙_, ap}
 use native.Mathlib.Omega.{arith}
 use lib.Dec.{leb, eqb}
-use lib.ListN.{length, drop, length-append}
-use borrow.Author.Tests.{leb-true, eqb-true}
-use Rattle.grammar.specs.Text.{within, all, empty, split, join, cut, headIf, tailIf, listOf, broken}
+use lib.ListN.{length, length-append}
+use borrow.Author.Tests.{leb-true}
+use Rattle.grammar.specs.Text.{within, all, empty, split, join, cut, headIf, listOf, broken}
 use Rattle.grammar.specs.Bytes.{inClass, isText}
 use Rattle.grammar.specs.B64.{canonical}
 use Rattle.grammar.specs.Decimal.{isDecimal, digits}
@@ -18,7 +18,7 @@ use Rattle.grammar.specs.Limits.{longestString}
 use Rattle.grammar.specs.Pieces.{Slot, Pieces, isVersionPiece, afterFirst, pieces, slotOf, afterId, string}
 use Rattle.grammar.specs.Items.{Item, itemText, items}
 use Rattle.grammar.specs.Rules.{isName, isValue, isItem, isParams, isVersion, isOutput, ruleOf, starts, firstOf, pieceRows, grammarNumber}
-use Rattle.grammar.specs.declared.bytes.Class.{Class}
+use Rattle.grammar.specs.declared.scan.Class.{Class}
 use Rattle.grammar.specs.declared.decimal.Limited.{Limited}
 use Rattle.grammar.specs.declared.decimal.Limited.the-variants.{Malformed, Outside, Value}
 use Rattle.grammar.specs.declared.pieces.Piece.{Piece}

@@ -2,25 +2,23 @@
 -- Assumes nothing.
 use Prim.Native.Nat.{ℕ, zero, suc, _≤_, _<_}
 use mathlib.Core.Path.{_≡_, refl, sym, _∙_, ap}
-use mathlib.Core.List.{List, [], _∷_, map}
+use mathlib.Core.List.{List, [], _∷_}
 use mathlib.Core.Option.{none, some}
 use mathlib.Core.Bool.{Bool, true, false, not, cond, _||_, or-true}
 use native.Mathlib.Omega.{arith}
 use borrow.Author.Tests.{ne-eqb, eqb-true, le-leb, lt-leb}
 use lib.Dec.{leb, eqb}
 use lib.ListN.{length, getD}
-use Rattle.grammar.specs.Text.{empty, parts, cut, broken}
+use Rattle.grammar.specs.Text.{empty, parts, cut}
 use Rattle.grammar.specs.Pieces.{Slot, pieces, slotOf}
-use Rattle.grammar.specs.Items.{Item, items, itemsOf}
+use Rattle.grammar.specs.Items.{Item, itemsOf}
 use Rattle.grammar.specs.Limits.{longestString}
-use Rattle.grammar.specs.Rules.{ruleOf, starts, badWhole, firstOf, pieceRows, grammarRows, grammarNumber}
+use Rattle.grammar.specs.Rules.{starts, badWhole, firstOf, pieceRows, grammarRows, grammarNumber}
 use Rattle.grammar.specs.Layout.{span, noPlaces, placesOf, spanOf, refusedLayout, acceptedLayout, layout}
-use Rattle.grammar.specs.Parts.{partAt, isAccepted, textOf, pieceText, itemsIn, itemAt}
+use Rattle.grammar.specs.Parts.{partAt, textOf, pieceText, itemAt}
 use Rattle.grammar.specs.declared.pieces.Piece.{Piece}
 use Rattle.grammar.specs.declared.pieces.Piece.the-variants.{Id, Version, Params, Salt, Output}
 use Rattle.grammar.specs.declared.pieces.Span.{Span}
-use Rattle.grammar.specs.declared.pieces.Places.{Places}
-use Rattle.grammar.specs.declared.pieces.Layout.{Layout}
 use Rattle.grammar.proofs.Tests.{neither, is-true}
 use Rattle.grammar.proofs.Rows.{Clear, clear}
 use Rattle.grammar.proofs.Spans.{Holds, part-empty, spans}

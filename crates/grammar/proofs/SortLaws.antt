@@ -1,9 +1,8 @@
 -- A step of the sorting from a place, and five of them: the sorted pieces of the string.
 -- Assumes nothing.
-use Prim.Native.Nat.{ℕ, zero, suc, _+_, _-_, _≤_, _<_}
+use Prim.Native.Nat.{ℕ, suc, _+_, _-_, _≤_, _<_}
 use mathlib.Core.Path.{_≡_, refl, sym, ap, _∙_}
 use mathlib.Core.List.{List, [], _∷_}
-use mathlib.Core.Option.{none, some}
 use mathlib.Core.Bool.{true, false, not, _&&_, false≢true}
 use native.Mathlib.Omega.{arith}
 use borrow.Author.Tests.{le-leb}
@@ -14,13 +13,13 @@ use Rattle.grammar.specs.Text.{find, empty, split, parts, headIf, tailIf
 use Rattle.grammar.specs.Pieces.{isVersionPiece, belongs, afterFirst, pieces}
 use Rattle.grammar.specs.Rules.{starts}
 use Rattle.grammar.specs.Layout.{span, spanFrom, past}
-use Rattle.grammar.specs.SortingSteps.{partsFrom, nextSlot, Stepped, sortedOf}
+use Rattle.grammar.specs.SortingSteps.{partsFrom, Stepped, sortedOf}
 use Rattle.grammar.specs.declared.pieces.Piece.{Piece}
 use Rattle.grammar.specs.declared.pieces.Piece.the-variants.{Id, Version, Params, Salt, Output}
 use Rattle.grammar.specs.declared.pieces.Span.{Span}
 use Rattle.grammar.specs.declared.sorting.Sorted.{Sorted}
 use Rattle.grammar.proofs.Scanning.{find-from-le}
-use Rattle.grammar.proofs.Splitting.{from-to, from-past, from-zero, some-from}
+use Rattle.grammar.proofs.Splitting.{from-to, from-past, some-from}
 
 module _ (s : List ℕ) (w : Piece) (at : ℕ) where
   pub stepped-past : length s < at → Stepped s w at (span 0 0) at

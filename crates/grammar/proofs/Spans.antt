@@ -1,6 +1,6 @@
 -- The span of a piece holds that piece, and an absent piece has the span 0 and 0.
 -- Assumes nothing.
-use Prim.Native.Nat.{ℕ, zero, suc, _+_, _≤_, _<_}
+use Prim.Native.Nat.{ℕ, _+_, _≤_, _<_}
 use mathlib.Core.Path.{_≡_, refl, sym, ap, _∙_}
 use mathlib.Core.List.{List, [], _∷_, _++_}
 use mathlib.Core.Option.{none, some}
@@ -14,7 +14,7 @@ use Rattle.grammar.specs.Text.{find, split, headIf, tailIf, listOf}
 use Rattle.grammar.specs.Pieces.{Slot, belongs, afterFirst, pieces, slotOf}
 use Rattle.grammar.specs.Rules.{starts}
 use Rattle.grammar.specs.Layout.{span, spanFrom, past, placesOf, spanOf}
-use Rattle.grammar.specs.Parts.{partAt, textOf}
+use Rattle.grammar.specs.Parts.{partAt}
 use Rattle.grammar.specs.SortingSteps.{partsFrom}
 use Rattle.grammar.specs.declared.pieces.Piece.{Piece}
 use Rattle.grammar.specs.declared.pieces.Piece.the-variants.{Id, Version, Params, Salt, Output}

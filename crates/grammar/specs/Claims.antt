@@ -2,7 +2,7 @@
 -- Assumes nothing.
 use Prim.Native.Nat.{ℕ, _+_, _*_, _-_, _≤_, _<_}
 use mathlib.Core.Path.{_≡_}
-use mathlib.Core.Bool.{Bool, true, false}
+use mathlib.Core.Bool.{true, false}
 use mathlib.Core.List.{List, [], _∷_, _++_}
 use mathlib.Core.Option.{some}
 use lib.ListN.{length, replicate}
@@ -12,9 +12,9 @@ use Rattle.grammar.specs.Bytes.{isByte}
 use Rattle.grammar.specs.Units.{bytesOf, charsOf}
 use Rattle.grammar.specs.B64.{sextet, letter, inAlphabet, canonical, decode, encode}
 use Rattle.grammar.specs.Decimal.{digits, decimalText}
-use Rattle.grammar.specs.Numerals.{Numeral, number, inRange, numeral, least, greatest, decimalReading, limitedReading}
+use Rattle.grammar.specs.Numerals.{number, inRange, numeral, least, greatest, decimalReading, limitedReading}
 use Rattle.grammar.specs.Limits.{longestName, longestValue, mostItems, longestString}
-use Rattle.grammar.specs.Pieces.{Slot, pieces, slotOf, string}
+use Rattle.grammar.specs.Pieces.{pieces, slotOf, string}
 use Rattle.grammar.specs.Rules.{starts, firstOf, pieceRows, grammarNumber}
 use Rattle.grammar.specs.Layout.{placesOf, spanOf}
 use Rattle.grammar.specs.Parts.{partAt, textOf}

@@ -1,9 +1,9 @@
 -- The pieces of a string, sorted. A string is `$` and then pieces parted by `$`; a piece is the bytes after its `$`.
 -- Assumes nothing.
 use Prim.Native.Nat.{ℕ}
-use mathlib.Core.Bool.{Bool, true, false, not, _&&_}
+use mathlib.Core.Bool.{Bool, true, false, _&&_}
 use mathlib.Core.List.{List, [], _∷_, _++_}
-use mathlib.Core.Option.{Option, none, some}
+use mathlib.Core.Option.{Option, some}
 use lib.Dec.{eqb}
 use Rattle.grammar.specs.Text.{has, Parts, split, join, headIf, tailIf, listOf}
 use Rattle.grammar.specs.declared.pieces.Piece.{Piece}

@@ -1,7 +1,7 @@
 -- The rule of each piece, and rows 1 to 7 of the numbers for bad input.
 -- Assumes nothing.
 use Prim.Native.Nat.{ℕ}
-use mathlib.Core.Bool.{Bool, true, false, not, cond, _&&_, _||_}
+use mathlib.Core.Bool.{Bool, false, not, cond, _&&_, _||_}
 use mathlib.Core.List.{List, [], _∷_}
 use lib.Dec.{leb, eqb}
 use lib.ListN.{length, drop}
@@ -12,8 +12,7 @@ use Rattle.grammar.specs.Numerals.{limitedReading, limitedNumber}
 use Rattle.grammar.specs.Limits.{longestName, longestValue, mostItems, largestVersion, longestString}
 use Rattle.grammar.specs.Pieces.{Pieces, pieces}
 use Rattle.grammar.specs.Items.{Item, items}
-use Rattle.grammar.specs.declared.bytes.Class.{Class}
-use Rattle.grammar.specs.declared.bytes.Class.the-variants.{Name, Value}
+use Rattle.grammar.specs.declared.scan.Class.the-variants.{Name, Value}
 use Rattle.grammar.specs.declared.pieces.Piece.{Piece}
 use Rattle.grammar.specs.declared.pieces.Piece.the-variants.{Id, Version, Params, Salt, Output}
 

@@ -1,6 +1,6 @@
 -- Texts as lists of numbers: tests on them, the parts between separators and the way back, a first element that passes a test.
 -- Assumes nothing.
-use Prim.Native.Nat.{ℕ, zero, suc}
+use Prim.Native.Nat.{ℕ, suc}
 use Prim.Native.Char.{code}
 use Prim.Native.String.{String, [] as nil, _∷_ as _⊳_}
 use mathlib.Core.Bool.{Bool, true, false, not, cond, _&&_, _||_}

@@ -1,15 +1,10 @@
 // The classes of bytes that the rules name.
 use crate::limits::LONGEST_NAME;
+use crate::scan::Class;
 use crate::scan::is_text;
 ghost use mathlib.Core.Path.{_≡_};
-ghost use Rattle.grammar.specs.Bytes.{isDigit, isNameByte, isValueByte, inClass};
+ghost use Rattle.grammar.specs.Bytes.{isNameByte, isValueByte};
 ghost use Rattle.grammar.specs.Rules.{isName};
-
-pub enum Class {
-    Name,
-    Value,
-    Digit,
-}
 
 // A byte of an id or of a parameter's name.
 pub fn is_name_byte(c: u8) -> bool
@@ -28,25 +23,6 @@ pub fn is_value_byte(c: u8) -> bool
     match c {
         b'a'..=b'z' | b'A'..=b'Z' | b'0'..=b'9' | b'/' | b'+' | b'.' | b'-' => true,
         _ => false,
-    }
-}
-
-fn is_digit(c: u8) -> bool
-    ensures { λ r. ⌜ r ≡ isDigit c ⌝ }
-{
-    match c {
-        b'0'..=b'9' => true,
-        _ => false,
-    }
-}
-
-pub fn in_class(class: Class, c: u8) -> bool
-    ensures { λ r. ⌜ r ≡ inClass class c ⌝ }
-{
-    match class {
-        Class::Name => is_name_byte(c),
-        Class::Value => is_value_byte(c),
-        Class::Digit => is_digit(c),
     }
 }
 

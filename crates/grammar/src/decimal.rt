@@ -1,11 +1,11 @@
 // Decimals: `0`, or a digit 1 to 9 and any further digits, or a minus sign before such a number other than 0.
-use crate::bytes::Class;
 use crate::place::Written;
 use crate::place::has_room;
+use crate::scan::Class;
 use crate::scan::all_of;
 use crate::units::Chars;
 ghost use Prim.Native.Nat.{_-_, _≤_, _<_};
-ghost use lib.IntN.{pos, negsuc, negℤ, natAbs};
+ghost use lib.IntN.{pos, negℤ, natAbs};
 ghost use mathlib.Core.Path.{_≡_};
 ghost use mathlib.Core.List.{_++_};
 ghost use lib.ListN.{length, drop};

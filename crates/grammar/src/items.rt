@@ -1,8 +1,8 @@
 // The items of a parameter piece.
-use crate::bytes::Class;
 use crate::bytes::is_name;
 use crate::limits::LONGEST_VALUE;
 use crate::limits::MOST_ITEMS;
+use crate::scan::Class;
 use crate::scan::is_text;
 use crate::scan::next_at;
 ghost use mathlib.Core.Path.{_≡_};

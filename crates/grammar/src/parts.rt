@@ -5,8 +5,8 @@ use crate::items::value_part;
 use crate::pieces::Piece;
 use crate::pieces::Span;
 use crate::pieces::read;
-use crate::pieces::span_of;
 use crate::place::has_room;
+use crate::sorting::span_of;
 ghost use mathlib.Core.Path.{_≡_};
 ghost use Rattle.grammar.specs.Parts.{partAt, pieceText, itemAt};
 

@@ -5,7 +5,7 @@ use crate::rules::number_of;
 use crate::sorting::sort;
 use crate::units::Chars;
 ghost use mathlib.Core.Path.{_≡_};
-ghost use Rattle.grammar.specs.Layout.{spanOf, refusedLayout, layout};
+ghost use Rattle.grammar.specs.Layout.{refusedLayout, layout};
 
 pub enum Piece {
     Id,
@@ -34,18 +34,6 @@ pub struct Layout {
     pub number: u8,
     pub places: Places,
     pub items: usize,
-}
-
-pub fn span_of(places: Places, which: Piece) -> Span
-    ensures { λ r. ⌜ r ≡ spanOf places which ⌝ }
-{
-    match which {
-        Piece::Id => places.id,
-        Piece::Version => places.version,
-        Piece::Params => places.params,
-        Piece::Salt => places.salt,
-        Piece::Output => places.output,
-    }
 }
 
 fn refused(number: u8) -> Layout

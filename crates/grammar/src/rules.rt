@@ -1,6 +1,5 @@
 // The rule of each piece, and rows 1 to 7.
 use crate::b64::is_canonical;
-use crate::bytes::Class;
 use crate::bytes::is_name;
 use crate::decimal::Limited;
 use crate::decimal::read_within;
@@ -12,9 +11,10 @@ use crate::limits::LONGEST_VALUE;
 use crate::parts::part;
 use crate::pieces::Piece;
 use crate::pieces::Places;
-use crate::pieces::span_of;
+use crate::scan::Class;
 use crate::scan::is_text;
 use crate::sorting::Sorted;
+use crate::sorting::span_of;
 ghost use mathlib.Core.Path.{_≡_};
 ghost use mathlib.Core.Bool.{true};
 ghost use lib.ListN.{length};

@@ -1,11 +1,36 @@
 // Walks over a text: the next separator, and whether every byte is of a class.
-use crate::bytes::Class;
-use crate::bytes::in_class;
+use crate::bytes::is_name_byte;
+use crate::bytes::is_value_byte;
 ghost use mathlib.Core.Path.{_≡_};
 ghost use Prim.Native.Nat.{_+_};
 ghost use lib.ListN.{drop};
 ghost use Rattle.grammar.specs.Text.{find, all};
-ghost use Rattle.grammar.specs.Bytes.{inClass, isText};
+ghost use Rattle.grammar.specs.Bytes.{isDigit, inClass, isText};
+
+pub enum Class {
+    Name,
+    Value,
+    Digit,
+}
+
+fn is_digit(c: u8) -> bool
+    ensures { λ r. ⌜ r ≡ isDigit c ⌝ }
+{
+    match c {
+        b'0'..=b'9' => true,
+        _ => false,
+    }
+}
+
+fn in_class(class: Class, c: u8) -> bool
+    ensures { λ r. ⌜ r ≡ inClass class c ⌝ }
+{
+    match class {
+        Class::Name => is_name_byte(c),
+        Class::Value => is_value_byte(c),
+        Class::Digit => is_digit(c),
+    }
+}
 
 // The place of the first `byte` from `from` on; the end where there is none.
 pub fn next_at(s: &[u8], from: usize, byte: u8) -> usize

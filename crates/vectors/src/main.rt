@@ -10,66 +10,52 @@ fn show(text: &[u8]) {
     io::write_all(STDOUT_FILENO, text);
 }
 
-fn show_number(n: u64) {
-    io::print_decimal(STDOUT_FILENO, n);
+// A field and the tab after it.
+fn field(text: &[u8]) {
+    show(text);
+    show(b"\t");
 }
 
-// bytes, number, count, the buffer
+fn number(n: u64) {
+    io::print_decimal(STDOUT_FILENO, n);
+    show(b"\t");
+}
+
+// number, count, the buffer
+fn outcome(answer: u8, count: usize, buf: &[u8]) {
+    number(answer as u64);
+    number(count as u64);
+    show(buf);
+    show(b"\n");
+}
+
 fn encoded(bytes: &[u8]) {
     let mut buf = [46u8; 12];
     let r = grammar::b64::encode(bytes, &mut buf, 2);
-    show(b"encode\t");
-    show(bytes);
-    show(b"\t");
-    show_number(r.number as u64);
-    show(b"\t");
-    show_number(r.count.0 as u64);
-    show(b"\t");
-    show(&buf);
-    show(b"\n");
+    field(b"encode");
+    field(bytes);
+    outcome(r.number, r.count.0, &buf);
 }
 
-// text, number, count, the buffer
 fn decoded(text: &[u8]) {
     let mut buf = [46u8; 10];
     let r = grammar::b64::decode(text, &mut buf, 2);
-    show(b"decode\t");
-    show(text);
-    show(b"\t");
-    show_number(r.number as u64);
-    show(b"\t");
-    show_number(r.count.0 as u64);
-    show(b"\t");
-    show(&buf);
-    show(b"\n");
+    field(b"decode");
+    field(text);
+    outcome(r.number, r.count.0, &buf);
 }
 
-// text, number, the number read written again, with its count and the buffer
+// The number read is written again.
 fn decimal(text: &[u8]) {
     let d = grammar::decimal::read_decimal(text);
     let mut buf = [46u8; 24];
     let w = grammar::decimal::write_decimal(d.value, &mut buf, 2);
-    show(b"decimal\t");
-    show(text);
-    show(b"\t");
-    show_number(d.number as u64);
-    show(b"\t");
-    show_number(w.count.0 as u64);
-    show(b"\t");
-    show(&buf);
-    show(b"\n");
+    field(b"decimal");
+    field(text);
+    outcome(d.number, w.count.0, &buf);
 }
 
-// string, number, items, the five pieces, the name and the value of the items at 0 and 1
-fn string(s: &[u8]) {
-    let layout = grammar::pieces::read(s);
-    show(b"string\t");
-    show(s);
-    show(b"\t");
-    show_number(layout.number as u64);
-    show(b"\t");
-    show_number(layout.items as u64);
-    show(b"\t");
+fn pieces(s: &[u8]) {
     show(piece(s, Piece::Id));
     show(b"|");
     show(piece(s, Piece::Version));
@@ -78,19 +64,30 @@ fn string(s: &[u8]) {
     show(b"|");
     show(piece(s, Piece::Salt));
     show(b"|");
-    show(piece(s, Piece::Output));
-    show(b"\t");
-    show(item_name(s, 0));
+    field(piece(s, Piece::Output));
+}
+
+fn item(s: &[u8], index: usize) {
+    show(item_name(s, index));
     show(b":");
-    show(item_value(s, 0));
+    show(item_value(s, index));
+}
+
+// number, items, the five pieces, the items at 0 and 1
+fn string(s: &[u8]) {
+    let layout = grammar::pieces::read(s);
+    field(b"string");
+    field(s);
+    number(layout.number as u64);
+    number(layout.items as u64);
+    pieces(s);
+    item(s, 0);
     show(b" ");
-    show(item_name(s, 1));
-    show(b":");
-    show(item_value(s, 1));
+    item(s, 1);
     show(b"\n");
 }
 
-fn b64_vectors() {
+fn encoder() {
     encoded(b"");
     encoded(b"f");
     encoded(b"fo");
@@ -100,6 +97,9 @@ fn b64_vectors() {
     encoded(b"foobar");
     encoded(b"foobarf");
     encoded(b"foobarfo");
+}
+
+fn decoder() {
     decoded(b"");
     decoded(b"Zg");
     decoded(b"Zm8");
@@ -109,6 +109,9 @@ fn b64_vectors() {
     decoded(b"Zm9vYmFy");
     decoded(b"Zm9vYmFyZm8");
     decoded(b"Zm9vYmFyZm9v");
+}
+
+fn decoder_more() {
     decoded(b"Zg==");
     decoded(b"Z");
     decoded(b"Zh");
@@ -117,7 +120,7 @@ fn b64_vectors() {
     decoded(b"Zm9-");
 }
 
-fn decimal_vectors() {
+fn decimals() {
     decimal(b"0");
     decimal(b"");
     decimal(b"-");
@@ -127,6 +130,9 @@ fn decimal_vectors() {
     decimal(b"05");
     decimal(b"-5");
     decimal(b"--5");
+}
+
+fn decimals_more() {
     decimal(b"5 ");
     decimal(b"4294967296");
     decimal(b"9223372036854775807");
@@ -136,7 +142,7 @@ fn decimal_vectors() {
     decimal(b"99999999999999999999999999999999");
 }
 
-fn string_vectors() {
+fn strings() {
     string(b"$argon2i$m=120,t=5000,p=2$/LtFjH5rVL8");
     string(
         b"$argon2id$v=19$m=65536,t=2,p=1$gZiV/M1gPc22ElAH/Jh1Hw$CWOrkoo7oJBQ/iyh7uJ0LO2aLEfrHwTWllSAxT0zRno",
@@ -149,6 +155,9 @@ fn string_vectors() {
     string(b"$");
     string(b"$A");
     string(b"$abcdefghijklmnopqrstuvwxyz-012345$s");
+}
+
+fn strings_more() {
     string(b"$a$v=");
     string(b"$a$v=01");
     string(b"$a$v=-0");
@@ -158,6 +167,9 @@ fn string_vectors() {
     string(b"$a$b=2,v=3");
     string(b"$a$m=1,");
     string(b"$a$m=");
+}
+
+fn strings_last() {
     string(b"$a$a=1,b=2,c=3,d=4,e=5,f=6,g=7,h=8,i=9,j=1,k=2,l=3,m=4,n=5,o=6,p=7,q=8");
     string(b"$pbkdf2s2$");
     string(b"$a$salt$Zh");
@@ -167,7 +179,12 @@ fn string_vectors() {
 }
 
 fn main() {
-    b64_vectors();
-    decimal_vectors();
-    string_vectors();
+    encoder();
+    decoder();
+    decoder_more();
+    decimals();
+    decimals_more();
+    strings();
+    strings_more();
+    strings_last();
 }

@@ -1,13 +1,12 @@
 -- `grammar::rules::number_of` meets its contract. Assumes nothing.
-use mathlib.Core.Path.{_≡_, sym, _∙_, ap}
-use mathlib.Core.Bool.{Bool, not}
+use mathlib.Core.Path.{_≡_, ap}
+use mathlib.Core.Bool.{not}
 use denote.Ref.{now}
 use Rattle.grammar.specs.Text.{empty}
 use Rattle.grammar.specs.Pieces.{pieces}
 use Rattle.grammar.specs.Rules.{starts}
 use mathlib.Core.Bool.{true}
 use Rattle.grammar.specs.Layout.{placesOf}
-use Rattle.grammar.specs.declared.pieces.Places.{Places}
 use Rattle.grammar.specs.declared.sorting.Sorted.{Sorted}
 use Rattle.grammar.proofs.rules.number_of.Statement.{statement}
 use Rattle.grammar.proofs.rules.number_of.Tie as tie

@@ -1,4 +1,4 @@
--- `grammar::bytes::is_digit` meets its contract: on each interval that the tests leave, the class is constant.
+-- `grammar::scan::is_digit` meets its contract: on each interval that the tests leave, the class is constant.
 -- Assumes nothing.
 use native.Mathlib.Omega.{arith}
 use mathlib.Core.Path.{sym}
@@ -6,8 +6,8 @@ use mathlib.Core.Bool.{true, false}
 use mathlib.Core.List.{[]}
 use Rattle.grammar.specs.Bytes.{isDigit}
 use Rattle.grammar.proofs.Classes.{on}
-use Rattle.grammar.proofs.bytes.is_digit.Statement.{statement}
-use Rattle.grammar.proofs.bytes.is_digit.Tie as tie
+use Rattle.grammar.proofs.scan.is_digit.Statement.{statement}
+use Rattle.grammar.proofs.scan.is_digit.Tie as tie
 
 returns : tie.Need-returns
 unfolding isDigit
