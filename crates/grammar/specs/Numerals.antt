@@ -66,6 +66,12 @@ limitedNumber Limited·Malformed = 11
 limitedNumber Limited·Outside = 11
 limitedNumber (Value n) = 0
 
+-- and the value read, 0 where none was
+abbrev pub limitedValue : Limited → ℕ
+limitedValue Limited·Malformed = 0
+limitedValue Limited·Outside = 0
+limitedValue (Value n) = n
+
 -- ---- the writer: 17, or the text of the number from the place on
 
 abbrev pub decimalWriting : ℤ → List ℕ → ℕ → Outcome
