@@ -29,19 +29,21 @@ fn outcome(answer: u8, count: usize, buf: &[u8]) {
     show(b"\n");
 }
 
-fn encoded(bytes: &[u8]) {
+fn encoded(bytes: &[u8], at: usize) {
     let mut buf = [46u8; 12];
-    let r = grammar::b64::encode(bytes, &mut buf, 2);
+    let r = grammar::b64::encode(bytes, &mut buf, at);
     field(b"encode");
     field(bytes);
+    number(at as u64);
     outcome(r.number, r.count.0, &buf);
 }
 
-fn decoded(text: &[u8]) {
+fn decoded(text: &[u8], at: usize) {
     let mut buf = [46u8; 10];
-    let r = grammar::b64::decode(text, &mut buf, 2);
+    let r = grammar::b64::decode(text, &mut buf, at);
     field(b"decode");
     field(text);
+    number(at as u64);
     outcome(r.number, r.count.0, &buf);
 }
 
@@ -88,36 +90,49 @@ fn string(s: &[u8]) {
 }
 
 fn encoder() {
-    encoded(b"");
-    encoded(b"f");
-    encoded(b"fo");
-    encoded(b"foo");
-    encoded(b"foob");
-    encoded(b"fooba");
-    encoded(b"foobar");
-    encoded(b"foobarf");
-    encoded(b"foobarfo");
+    encoded(b"", 2);
+    encoded(b"f", 2);
+    encoded(b"fo", 2);
+    encoded(b"foo", 2);
+    encoded(b"foob", 2);
+    encoded(b"fooba", 2);
+    encoded(b"foobar", 2);
+    encoded(b"foobarf", 2);
+    encoded(b"foobarfo", 2);
+}
+
+// A place equal to the buffer's length is no fault where nothing is to be written; a place past it is.
+fn places() {
+    encoded(b"", 12);
+    encoded(b"", 13);
+    encoded(b"f", 10);
+    encoded(b"f", 11);
+    decoded(b"", 10);
+    decoded(b"", 11);
+    decoded(b"Zg", 9);
+    decoded(b"Zg", 10);
+    decoded(b"Zg", 18446744073709551615);
 }
 
 fn decoder() {
-    decoded(b"");
-    decoded(b"Zg");
-    decoded(b"Zm8");
-    decoded(b"Zm9v");
-    decoded(b"Zm9vYg");
-    decoded(b"Zm9vYmE");
-    decoded(b"Zm9vYmFy");
-    decoded(b"Zm9vYmFyZm8");
-    decoded(b"Zm9vYmFyZm9v");
+    decoded(b"", 2);
+    decoded(b"Zg", 2);
+    decoded(b"Zm8", 2);
+    decoded(b"Zm9v", 2);
+    decoded(b"Zm9vYg", 2);
+    decoded(b"Zm9vYmE", 2);
+    decoded(b"Zm9vYmFy", 2);
+    decoded(b"Zm9vYmFyZm8", 2);
+    decoded(b"Zm9vYmFyZm9v", 2);
 }
 
 fn decoder_more() {
-    decoded(b"Zg==");
-    decoded(b"Z");
-    decoded(b"Zh");
-    decoded(b"Zm9");
-    decoded(b"Zm9v\n");
-    decoded(b"Zm9-");
+    decoded(b"Zg==", 2);
+    decoded(b"Z", 2);
+    decoded(b"Zh", 2);
+    decoded(b"Zm9", 2);
+    decoded(b"Zm9v\n", 2);
+    decoded(b"Zm9-", 2);
 }
 
 fn decimals() {
@@ -180,6 +195,7 @@ fn strings_last() {
 
 fn main() {
     encoder();
+    places();
     decoder();
     decoder_more();
     decimals();
