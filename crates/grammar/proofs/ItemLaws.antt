@@ -6,7 +6,7 @@ use mathlib.Core.List.{List, [], _∷_, map}
 use mathlib.Core.Option.{some}
 use mathlib.Core.Path.{_≡_, refl, sym, _∙_, ap, ap₂}
 use native.Mathlib.Omega.{arith}
-use borrow.Author.Tests.{le-leb, lt-leb, ne-eqb}
+use borrow.Author.Tests.{le-leb, lt-leb}
 use lib.Dec.{leb, eqb}
 use lib.ListN.{length, getD, take, drop}
 use Rattle.grammar.specs.Text.{text, within, all, has, same, empty, Parts, find, split, join, cut}
@@ -67,16 +67,6 @@ pub item-at : (l : List (List ℕ)) (k : ℕ) → getD (map (cut 61) l) k ([], [
 item-at [] k = refl
 item-at (p ∷ l) zero = refl
 item-at (p ∷ l) (suc k) = item-at l k
-
--- a text of one byte
-pub same-one : (c : ℕ) (s : List ℕ) → same s (c ∷ []) ≡ (eqb (length s) 1 && eqb (getD s 0 0) c)
-same-one c [] = refl
-same-one c (a ∷ []) = go (eqb a c)
-  where
-    go : (b : Bool) → (b && true) ≡ b
-    go true = refl
-    go false = refl
-same-one c (a ∷ b ∷ s) = rw (and-false, ne-eqb (suc (suc (length s))) 1 (λ e. omega arith))
 
 -- ---- what the rule of an item says
 

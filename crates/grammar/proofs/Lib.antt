@@ -2,7 +2,7 @@ pub mod Tests
 pub mod Table
 pub mod Scanning
 pub mod Lists
-pub mod Classes
+pub mod ClassLaws
 pub mod Writing
 pub mod Groups
 pub mod B64Laws

@@ -18,7 +18,7 @@ use Rattle.grammar.specs.Limits.{longestString}
 use Rattle.grammar.specs.Pieces.{Slot, Pieces, isVersionPiece, afterFirst, pieces, slotOf, afterId, string}
 use Rattle.grammar.specs.Items.{Item, itemText, items}
 use Rattle.grammar.specs.Rules.{isName, isValue, isItem, isParams, isVersion, isOutput, ruleOf, starts, firstOf, pieceRows, grammarNumber}
-use Rattle.grammar.specs.declared.scan.Class.{Class}
+use Rattle.grammar.specs.declared.classes.Class.{Class}
 use Rattle.grammar.specs.declared.decimal.Limited.{Limited}
 use Rattle.grammar.specs.declared.decimal.Limited.the-variants.{Malformed, Outside, Value}
 use Rattle.grammar.specs.declared.pieces.Piece.{Piece}

@@ -1,16 +1,16 @@
 -- One step of a walk over a list from a place: a test of every element, and the search for a byte.
 -- Assumes nothing.
 use Prim.Native.Nat.{ℕ, suc, _+_, _≤_, _<_}
-use mathlib.Core.Path.{_≡_}
+use mathlib.Core.Path.{_≡_, refl, ap}
 use mathlib.Core.List.{List, [], _∷_}
-use mathlib.Core.Bool.{Bool, true, false, cond}
+use mathlib.Core.Bool.{Bool, true, false, cond, and-false}
 use native.Mathlib.Omega.{arith}
 use native.Mathlib.Numerals.{add-one}
 use borrow.Author.Tests.{eq-eqb, ne-eqb}
 use lib.Dec.{eqb}
 use lib.ListN.{length, getD, drop, length-drop, drop-of-length-le}
 use lib.Seq.{drop-cons}
-use Rattle.grammar.specs.Text.{all, find}
+use Rattle.grammar.specs.Text.{all, same, find}
 
 module _ (f : ℕ → Bool) (s : List ℕ) (i : ℕ) where
   pub all-past : length s ≤ i → all f (drop i s) ≡ true
@@ -42,3 +42,21 @@ find-le d (c ∷ s) = go (eqb c d) (find-le d s)
 
 pub find-from-le : (d : ℕ) (s : List ℕ) (at : ℕ) → at ≤ length s → at + find d (drop at s) ≤ length s
 find-from-le d s at h = omega (arith, find-le d (drop at s), length-drop at s)
+
+-- ---- two texts side by side
+
+pub same-lengths : (a b : List ℕ) → (length a ≡ length b → ⊥) → same a b ≡ false
+same-lengths [] [] n = absurd (n refl)
+same-lengths [] (y ∷ b) n = refl
+same-lengths (x ∷ a) [] n = refl
+same-lengths (x ∷ a) (y ∷ b) n = rw (same-lengths a b (λ e. n (ap suc e))) (and-false (eqb x y))
+
+module _ (a b : List ℕ) (i : ℕ) where
+  pub same-past : length a ≤ i → length b ≤ i → same (drop i a) (drop i b) ≡ true
+  same-past h k = rw (drop-of-length-le a {i = i} h, drop-of-length-le b {i = i} k)
+
+  pub same-not : i < length a → i < length b → (getD a i 0 ≡ getD b i 0 → ⊥) → same (drop i a) (drop i b) ≡ false
+  same-not h k n = rw (drop-cons a i 0 h, drop-cons b i 0 k, ne-eqb (getD a i 0) (getD b i 0) n)
+
+  pub same-step : i < length a → i < length b → getD a i 0 ≡ getD b i 0 → same (drop i a) (drop i b) ≡ same (drop (i + 1) a) (drop (i + 1) b)
+  same-step h k e = rw (add-one, drop-cons a i 0 h, drop-cons b i 0 k, eq-eqb (getD a i 0) (getD b i 0) e)

@@ -6,8 +6,8 @@ use mathlib.Core.List.{List}
 use lib.Dec.{leb, eqb}
 use lib.ListN.{length}
 use Rattle.grammar.specs.Text.{within, all}
-use Rattle.grammar.specs.declared.scan.Class.{Class}
-use Rattle.grammar.specs.declared.scan.Class.the-variants.{Name, Value, Digit}
+use Rattle.grammar.specs.declared.classes.Class.{Class}
+use Rattle.grammar.specs.declared.classes.Class.the-variants.{Name, Value, Digit}
 
 abbrev pub isByte : ℕ → Bool
 isByte c = leb c 255

@@ -12,7 +12,7 @@ use Rattle.grammar.specs.Numerals.{limitedReading, limitedNumber}
 use Rattle.grammar.specs.Limits.{longestName, longestValue, mostItems, largestVersion, longestString}
 use Rattle.grammar.specs.Pieces.{Pieces, pieces}
 use Rattle.grammar.specs.Items.{Item, items}
-use Rattle.grammar.specs.declared.scan.Class.the-variants.{Name, Value}
+use Rattle.grammar.specs.declared.classes.Class.the-variants.{Name, Value}
 use Rattle.grammar.specs.declared.pieces.Piece.{Piece}
 use Rattle.grammar.specs.declared.pieces.Piece.the-variants.{Id, Version, Params, Salt, Output}
 

@@ -1,7 +1,7 @@
 // The classes of bytes that the rules name.
+use crate::classes::Class;
+use crate::classes::is_text;
 use crate::limits::LONGEST_NAME;
-use crate::scan::Class;
-use crate::scan::is_text;
 ghost use mathlib.Core.Path.{_≡_};
 ghost use Rattle.grammar.specs.Bytes.{isNameByte, isValueByte};
 ghost use Rattle.grammar.specs.Rules.{isName};

@@ -1,8 +1,8 @@
 // Decimals: `0`, or a digit 1 to 9 and any further digits, or a minus sign before such a number other than 0.
+use crate::classes::Class;
+use crate::classes::all_of;
 use crate::place::Written;
 use crate::place::has_room;
-use crate::scan::Class;
-use crate::scan::all_of;
 use crate::units::Chars;
 ghost use Prim.Native.Nat.{_-_, _≤_, _<_};
 ghost use lib.IntN.{pos, negℤ, natAbs};

@@ -1,14 +1,15 @@
 // The items of a parameter piece.
 use crate::bytes::is_name;
+use crate::classes::Class;
+use crate::classes::is_text;
 use crate::limits::LONGEST_VALUE;
 use crate::limits::MOST_ITEMS;
-use crate::scan::Class;
-use crate::scan::is_text;
 use crate::scan::next_at;
+use crate::scan::same_text;
 ghost use mathlib.Core.Path.{_≡_};
 ghost use mathlib.Core.List.{[]};
 ghost use lib.ListN.{length, getD};
-ghost use Rattle.grammar.specs.Text.{parts, cut, same, text};
+ghost use Rattle.grammar.specs.Text.{parts, cut};
 ghost use Rattle.grammar.specs.Items.{items};
 ghost use Rattle.grammar.specs.Rules.{isItem, isParams};
 
@@ -32,16 +33,6 @@ pub fn value_part(item: &[u8]) -> &[u8]
     &item[at..]
 }
 
-// Whether the text is `v`.
-fn is_v(name: &[u8]) -> bool
-    ensures { λ r. ⌜ r ≡ same (now (name .entry)) (text "v") ⌝ }
-{
-    if name.len() != 1 {
-        return false;
-    }
-    name[0] == b'v'
-}
-
 fn is_item(item: &[u8]) -> bool
     ensures { λ r. ⌜ r ≡ isItem (cut 61 (now (item .entry))) ⌝ }
 {
@@ -49,7 +40,7 @@ fn is_item(item: &[u8]) -> bool
     if !is_name(name) {
         return false;
     }
-    if is_v(name) {
+    if same_text(name, b"v") {
         return false;
     }
     is_text(value_part(item), Class::Value, LONGEST_VALUE)

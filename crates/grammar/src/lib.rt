@@ -3,6 +3,7 @@
 pub mod alphabet;
 pub mod b64;
 pub mod bytes;
+mod classes;
 pub mod decimal;
 mod items;
 mod limits;
@@ -10,6 +11,6 @@ pub mod parts;
 pub mod pieces;
 pub mod place;
 mod rules;
-mod scan;
+pub mod scan;
 mod sorting;
 pub mod units;

@@ -1,6 +1,8 @@
 // The rule of each piece, and rows 1 to 7.
 use crate::b64::is_canonical;
 use crate::bytes::is_name;
+use crate::classes::Class;
+use crate::classes::is_text;
 use crate::decimal::Limited;
 use crate::decimal::read_within;
 use crate::items::is_params;
@@ -11,8 +13,6 @@ use crate::limits::LONGEST_VALUE;
 use crate::parts::part;
 use crate::pieces::Piece;
 use crate::pieces::Places;
-use crate::scan::Class;
-use crate::scan::is_text;
 use crate::sorting::Sorted;
 use crate::sorting::span_of;
 ghost use mathlib.Core.Path.{_≡_};

@@ -1,36 +1,8 @@
-// Walks over a text: the next separator, and whether every byte is of a class.
-use crate::bytes::is_name_byte;
-use crate::bytes::is_value_byte;
+// Walks over texts: the next separator, and whether two texts are the same.
 ghost use mathlib.Core.Path.{_≡_};
 ghost use Prim.Native.Nat.{_+_};
 ghost use lib.ListN.{drop};
-ghost use Rattle.grammar.specs.Text.{find, all};
-ghost use Rattle.grammar.specs.Bytes.{isDigit, inClass, isText};
-
-pub enum Class {
-    Name,
-    Value,
-    Digit,
-}
-
-fn is_digit(c: u8) -> bool
-    ensures { λ r. ⌜ r ≡ isDigit c ⌝ }
-{
-    match c {
-        b'0'..=b'9' => true,
-        _ => false,
-    }
-}
-
-fn in_class(class: Class, c: u8) -> bool
-    ensures { λ r. ⌜ r ≡ inClass class c ⌝ }
-{
-    match class {
-        Class::Name => is_name_byte(c),
-        Class::Value => is_value_byte(c),
-        Class::Digit => is_digit(c),
-    }
-}
+ghost use Rattle.grammar.specs.Text.{same, find};
 
 // The place of the first `byte` from `from` on; the end where there is none.
 pub fn next_at(s: &[u8], from: usize, byte: u8) -> usize
@@ -46,30 +18,18 @@ pub fn next_at(s: &[u8], from: usize, byte: u8) -> usize
     i
 }
 
-// Whether every byte is of the class.
-pub fn all_of(text: &[u8], class: Class) -> bool
-    ensures { λ r. ⌜ r ≡ all (inClass class) (now (text .entry)) ⌝ }
+pub fn same_text(a: &[u8], b: &[u8]) -> bool
+    ensures { λ r. ⌜ r ≡ same (now (a .entry)) (now (b .entry)) ⌝ }
 {
+    if a.len() != b.len() {
+        return false;
+    }
     let mut i = 0;
-    while i < text.len() {
-        let c = text[i];
-        if !in_class(class, c) {
+    while i < a.len() {
+        if a[i] != b[i] {
             return false;
         }
         i += 1;
     }
     true
-}
-
-// Whether there are 1 to `most` bytes, each of the class.
-pub fn is_text(text: &[u8], class: Class, most: usize) -> bool
-    ensures { λ r. ⌜ r ≡ isText class most (now (text .entry)) ⌝ }
-{
-    if text.len() < 1 {
-        return false;
-    }
-    if most < text.len() {
-        return false;
-    }
-    all_of(text, class)
 }

@@ -15,17 +15,20 @@ returns : tie.Need-returns
 unfolding isItem
 returns c = rw (← c .before .before .name-part .ensures, ← c .before .is-name .ensures, not-true (c .before .is-name .result) (c .if1 .taken))
 
-is-v-requires : tie.Need-is-v-requires
-is-v-requires c κs = search needs
+slice-aggregate-same-text : tie.Need-slice-aggregate-same-text
+slice-aggregate-same-text c = search needs
+
+same-text-requires : tie.Need-same-text-requires
+same-text-requires c κs = search needs
 
 returns-2 : tie.Need-returns-2
 unfolding isItem
 returns-2 c =
     rw (
-      ← c .before .before .before .before .name-part .ensures,
-      ← c .before .before .before .is-name .ensures,
-      not-false (c .before .before .before .is-name .result) (c .before .before .if1 .left),
-      ← c .before .is-v .ensures,
+      ← c .before .before .before .before .before .name-part .ensures,
+      ← c .before .before .before .before .is-name .ensures,
+      not-false (c .before .before .before .before .is-name .result) (c .before .before .before .if1 .left),
+      ← c .before .same-text .ensures,
       c .if2 .taken,
     )
 
@@ -39,10 +42,10 @@ returns-3 : tie.Need-returns-3
 unfolding isItem
 returns-3 c =
     rw (
-      ← c .before .before .before .before .before .before .name-part .ensures,
-      ← c .before .before .before .before .before .is-name .ensures,
-      not-false (c .before .before .before .before .before .is-name .result) (c .before .before .before .before .if1 .left),
-      ← c .before .before .before .is-v .ensures,
+      ← c .before .before .before .before .before .before .before .name-part .ensures,
+      ← c .before .before .before .before .before .before .is-name .ensures,
+      not-false (c .before .before .before .before .before .before .is-name .result) (c .before .before .before .before .before .if1 .left),
+      ← c .before .before .before .same-text .ensures,
       c .before .before .if2 .left,
       ← c .before .value-part .ensures,
     )
@@ -55,7 +58,8 @@ is-item-spec =
     name-part-requires
     is-name-requires
     returns
-    is-v-requires
+    slice-aggregate-same-text
+    same-text-requires
     returns-2
     value-part-requires
     is-text-requires

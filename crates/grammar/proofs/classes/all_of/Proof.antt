@@ -1,4 +1,4 @@
--- `grammar::scan::all_of` meets its contract. Assumes nothing.
+-- `grammar::classes::all_of` meets its contract. Assumes nothing.
 use Prim.Native.Nat.{_-_}
 use mathlib.Core.Path.{_≡_, sym, _∙_}
 use borrow.Author.Needs.{needs}
@@ -8,8 +8,8 @@ use lib.ListN.{length, drop}
 use Rattle.grammar.specs.Text.{all}
 use Rattle.grammar.specs.Bytes.{inClass}
 use Rattle.grammar.proofs.Scanning.{all-past, all-false, all-step}
-use Rattle.grammar.proofs.scan.all_of.Statement.{statement}
-use Rattle.grammar.proofs.scan.all_of.Tie as tie
+use Rattle.grammar.proofs.classes.all_of.Statement.{statement}
+use Rattle.grammar.proofs.classes.all_of.Tie as tie
 
 abbrev Inv-loop : tie.InvT-loop
 Inv-loop text class i₀ i = all (inClass class) text ≡ all (inClass class) (drop i text)

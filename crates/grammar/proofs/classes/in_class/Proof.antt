@@ -1,7 +1,7 @@
--- `grammar::scan::in_class` meets its contract. Assumes nothing.
+-- `grammar::classes::in_class` meets its contract. Assumes nothing.
 use borrow.Author.Needs.{needs}
-use Rattle.grammar.proofs.scan.in_class.Statement.{statement}
-use Rattle.grammar.proofs.scan.in_class.Tie as tie
+use Rattle.grammar.proofs.classes.in_class.Statement.{statement}
+use Rattle.grammar.proofs.classes.in_class.Tie as tie
 
 enum-told : tie.Need-enum-told
 enum-told c = search needs

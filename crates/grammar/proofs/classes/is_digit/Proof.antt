@@ -1,13 +1,13 @@
--- `grammar::scan::is_digit` meets its contract: on each interval that the tests leave, the class is constant.
+-- `grammar::classes::is_digit` meets its contract: on each interval that the tests leave, the class is constant.
 -- Assumes nothing.
 use native.Mathlib.Omega.{arith}
 use mathlib.Core.Path.{sym}
 use mathlib.Core.Bool.{true, false}
 use mathlib.Core.List.{[]}
 use Rattle.grammar.specs.Bytes.{isDigit}
-use Rattle.grammar.proofs.Classes.{on}
-use Rattle.grammar.proofs.scan.is_digit.Statement.{statement}
-use Rattle.grammar.proofs.scan.is_digit.Tie as tie
+use Rattle.grammar.proofs.ClassLaws.{on}
+use Rattle.grammar.proofs.classes.is_digit.Statement.{statement}
+use Rattle.grammar.proofs.classes.is_digit.Tie as tie
 
 returns : tie.Need-returns
 unfolding isDigit

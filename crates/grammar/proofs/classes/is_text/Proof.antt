@@ -1,10 +1,10 @@
--- `grammar::scan::is_text` meets its contract. Assumes nothing.
+-- `grammar::classes::is_text` meets its contract. Assumes nothing.
 use mathlib.Core.Bool.{and-false}
 use borrow.Author.Tests.{le-leb, lt-leb}
 use Rattle.grammar.specs.Bytes.{isText}
 use borrow.Author.Needs.{needs}
-use Rattle.grammar.proofs.scan.is_text.Statement.{statement}
-use Rattle.grammar.proofs.scan.is_text.Tie as tie
+use Rattle.grammar.proofs.classes.is_text.Statement.{statement}
+use Rattle.grammar.proofs.classes.is_text.Tie as tie
 
 returns : tie.Need-returns
 unfolding isText
