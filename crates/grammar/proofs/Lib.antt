@@ -1,5 +1,6 @@
 pub mod Tests
 pub mod Table
+pub mod TableRules
 pub mod Scanning
 pub mod Lists
 pub mod ClassLaws

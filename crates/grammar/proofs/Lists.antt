@@ -8,7 +8,7 @@ use mathlib.Core.Path.{_≡_, refl, sym, _∙_, ap, ap₂}
 use lib.Dec.{eqb}
 use borrow.Author.Tests.{eqb-true, eq-eqb}
 use Rattle.grammar.specs.Text.{all, has, same, empty, Parts, putByte, split, join, cutByte, cut, headIf, tailIf, listOf}
-use Rattle.grammar.specs.Claims.{Frees}
+use Rattle.grammar.specs.Claims.{Frees, Fails, Fits}
 use Rattle.grammar.proofs.Tests.{both, and-true, neither, or-false}
 
 pub same-eq : (s u : List ℕ) → same s u ≡ true → s ≡ u
@@ -96,28 +96,18 @@ module _ {A : Type 0} (f : A → Bool) where
       go true = refl
       go false = refl
 
-  -- the test fails at the first element, if there is one
-  abbrev pub Fails : List A → Type 0
-  Fails [] = Unit {0}
-  Fails (x ∷ xs) = f x ≡ false
-
-  -- what is there passes; where nothing is there, what follows fails
-  abbrev pub Fits : Option A → List A → Type 0
-  Fits none l = Fails l
-  Fits (some x) l = f x ≡ true
-
-  head-none : (l : List A) → Fails l → headIf f l ≡ none
+  head-none : (l : List A) → Fails f l → headIf f l ≡ none
   head-none [] h = refl
   head-none (x ∷ xs) h = rw h
 
-  tail-none : (l : List A) → Fails l → tailIf f l ≡ l
+  tail-none : (l : List A) → Fails f l → tailIf f l ≡ l
   tail-none [] h = refl
   tail-none (x ∷ xs) h = rw h
 
-  pub head-of : (o : Option A) (l : List A) → Fits o l → headIf f (listOf o ++ l) ≡ o
+  pub head-of : (o : Option A) (l : List A) → Fits f o l → headIf f (listOf o ++ l) ≡ o
   head-of none l h = head-none l h
   head-of (some x) l h = rw h
 
-  pub tail-of : (o : Option A) (l : List A) → Fits o l → tailIf f (listOf o ++ l) ≡ l
+  pub tail-of : (o : Option A) (l : List A) → Fits f o l → tailIf f (listOf o ++ l) ≡ l
   tail-of none l h = tail-none l h
   tail-of (some x) l h = rw h

@@ -80,12 +80,12 @@ version-digits s (Value n) e z =
     let h : length (digits n) ≤ 10 = length-digits 9 n (omega (arith, p .2)) in
     omega (arith, ap length (p .0))
 
-version-short : (s : Slot) → broken isVersionPiece s ≡ false → broken isVersion s ≡ false → Short 12 s
-unfolding isVersion
-version-short none p e = tt
-version-short (some []) p e = absurd (true≢false p)
-version-short (some (c ∷ [])) p e = absurd (true≢false p)
-version-short (some (c ∷ d ∷ t)) p e = let h = version-digits t (limitedReading 0 4294967295 t) refl (is-true _ e) in omega arith
+version-short : (s : Slot) → broken isVersion s ≡ false → Short 12 s
+unfolding isVersion limitedReading numeral isDecimal
+version-short none e = tt
+version-short (some []) e = absurd (true≢false e)
+version-short (some (c ∷ [])) e = absurd (true≢false e)
+version-short (some (c ∷ d ∷ t)) e = let h = version-digits t (limitedReading 0 4294967295 t) refl (is-true _ e) in omega arith
 
 params-short : (s : Slot) → broken isParams s ≡ false → Short 2591 s
 unfolding isParams
@@ -116,14 +116,14 @@ unfolding total
 no-more [] e = refl
 no-more (x ∷ l) e = absurd (true≢false e)
 
-whole-length : (p : Pieces) → broken isVersionPiece (p .version) ≡ false → Clear (pieceRows p) → length (string p) ≤ longestString
-whole-length p v (a, (b, (c, (d, (e, (f, g)))))) =
+whole-length : (p : Pieces) → Clear (pieceRows p) → length (string p) ≤ longestString
+whole-length p (a, (b, (c, (d, (e, (f, g)))))) =
     let n = text-length _ 32 (p .id) (is-true (isName (p .id)) a) in
     let l₄ = p .more in
     let l₃ = listOf (p .output) ++ l₄ in
     let l₂ = listOf (p .salt) ++ l₃ in
     let l₁ = listOf (p .params) ++ l₂ in
-    let h₁ = add-slot 12 (p .version) l₁ (version-short (p .version) v b) in
+    let h₁ = add-slot 12 (p .version) l₁ (version-short (p .version) b) in
     let h₂ = add-slot 2591 (p .params) l₂ (params-short (p .params) c) in
     let h₃ = add-slot 128 (p .salt) l₃ (value-short (p .salt) d) in
     let h₄ = add-slot 128 (p .output) l₄ (output-short (p .output) e) in
@@ -131,23 +131,8 @@ whole-length p v (a, (b, (c, (d, (e, (f, g)))))) =
     let h₆ = join-length 36 (p .id) (afterId p) in
     omega arith
 
--- what was taken by a test passes it
-taken : (f : List ℕ → Bool) (l : List (List ℕ)) → broken f (headIf f l) ≡ false
-taken f [] = refl
-taken f (x ∷ l) = go (f x) refl
-  where
-    go : (b : Bool) → f x ≡ b → broken f (headIf f (x ∷ l)) ≡ false
-    go true e = rw (e, e)
-    go false e = rw e
-
-sorted-version : (s : List ℕ) → broken isVersionPiece (pieces s .version) ≡ false
-unfolding pieces
-sorted-version s = taken isVersionPiece (split 36 (afterFirst s) .1)
-
-pub at-most : (s : List ℕ) → starts s ≡ true → firstOf (pieceRows (pieces s)) ≡ 0 → length s ≤ longestString
-at-most s h e =
-    let w = whole-length (pieces s) (sorted-version s) (clear (pieceRows (pieces s)) refl e) in
-    omega (arith, ap length (string-pieces s h))
+pub at-most : (p : Pieces) → firstOf (pieceRows p) ≡ 0 → length (string p) ≤ longestString
+at-most p e = whole-length p (clear (pieceRows p) refl e)
 
 -- ---- no rule allows the empty text
 

@@ -12,8 +12,9 @@ use borrow.Author.Tests.{eqb-true, ne-eqb}
 use Rattle.grammar.specs.Text.{all}
 use Rattle.grammar.specs.Bytes.{isDigit}
 use Rattle.grammar.specs.Decimal.{isUnsigned, value, digits, isDecimal, decimalValue, decimalText}
-use Rattle.grammar.specs.Numerals.{Numeral, malformed, outside, number, inRange, numeral, least, greatest, signed, decimalAnswer, decimalReading, limited, limitedReading}
-use Rattle.grammar.specs.declared.decimal.Limited.the-variants.{Value}
+use Rattle.grammar.specs.Numerals.{Numeral, malformed, outside, number, inRange, numeral, least, greatest, signed, decimalAnswer, decimalReading, limited, limitedReading, limitedNumber, limitedValue}
+use Rattle.grammar.specs.declared.decimal.Limited.{Limited}
+use Rattle.grammar.specs.declared.decimal.Limited.the-variants.{Malformed, Outside, Value}
 use Rattle.grammar.proofs.Tests.{both, either, from-within, to-within}
 use Rattle.grammar.proofs.DecimalLaws.{digit-bounds, unsigned-cases, value-digits, digits-unsigned, digits-value}
 
@@ -103,3 +104,11 @@ back-decimal s e = go (numeral least greatest s) refl e
     go malformed p f = absurd (omega arith)
     go outside p f = absurd (omega arith)
     go (number z) p f = sym (text-numeral least greatest s z p .0)
+
+pub limited-zero : (low high : ℕ) (s : List ℕ) → limitedNumber (limitedReading low high s) ≡ 0 → s ≡ digits (limitedValue (limitedReading low high s))
+limited-zero low high s z = go (limitedReading low high s) refl z
+  where
+    go : (r : Limited) → limitedReading low high s ≡ r → limitedNumber r ≡ 0 → s ≡ digits (limitedValue r)
+    go Malformed e z = absurd (omega arith)
+    go Outside e z = absurd (omega arith)
+    go (Value n) e z = digits-limited low high s n e .0

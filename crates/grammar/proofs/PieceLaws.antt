@@ -9,8 +9,8 @@ use Rattle.grammar.specs.Text.{has, Parts, split, join, headIf, tailIf, 
 use Rattle.grammar.specs.Pieces.{Pieces, belongs, sort, afterFirst, pieces, afterId, string}
 use Rattle.grammar.specs.Rules.{starts}
 use Rattle.grammar.specs.declared.pieces.Piece.the-variants.{Version, Params, Salt, Output}
-use Rattle.grammar.specs.Claims.{Frees}
-use Rattle.grammar.proofs.Lists.{join-split, split-join, head-tail, Fits, head-of, tail-of}
+use Rattle.grammar.specs.Claims.{Sorts}
+use Rattle.grammar.proofs.Lists.{join-split, split-join, head-tail, head-of, tail-of}
 
 after-sort : (p : Parts) → afterId (sort p) ≡ p .1
 after-sort p =
@@ -28,15 +28,6 @@ unfolding pieces
 string-pieces s e =
     let p = split 36 (afterFirst s) in
     ap {B = List ℕ} (λ l. 36 ∷ join 36 (p .0) l) (after-sort p) ∙ ap {B = List ℕ} (λ l. 36 ∷ l) (join-split 36 (afterFirst s)) ∙ first s e
-
--- the sorting has the outcome p, and no piece has a `$`
-pub record Sorts (p : Pieces) : Type 0 where
-  pub version-fits : Fits (belongs Version) (p .version) (listOf (p .params) ++ (listOf (p .salt) ++ (listOf (p .output) ++ p .more)))
-  pub params-fits : Fits (belongs Params) (p .params) (listOf (p .salt) ++ (listOf (p .output) ++ p .more))
-  pub salt-fits : Fits (belongs Salt) (p .salt) (listOf (p .output) ++ p .more)
-  pub output-fits : Fits (belongs Output) (p .output) (p .more)
-  pub id-free : has 36 (p .id) ≡ false
-  pub others-free : Frees 36 (afterId p)
 
 sort-after : (p : Pieces) → Sorts p → sort (p .id, afterId p) ≡ p
 sort-after p h =

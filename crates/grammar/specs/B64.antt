@@ -35,18 +35,19 @@ Letters t = (v : ℕ) → v < 64 → getD t v 0 ≡ letter v
 abbrev pub inAlphabet : ℕ → Bool
 inAlphabet c = ltb (sextet c) 64
 
+-- the last character; of no text any would do, since no bit is unused there
 abbrev pub last : List ℕ → ℕ
 last [] = 0
 last (c ∷ []) = c
 last (c ∷ d ∷ t) = last (d ∷ t)
 
 -- two to the number of unused low bits: 4 bits when the remainder is 2, 2 bits when it is 3
-abbrev pub spare : ℕ → ℕ
-spare remainder = cond (eqb remainder 2) 16 (cond (eqb remainder 3) 4 1)
+abbrev pub lowBitsModulus : ℕ → ℕ
+lowBitsModulus remainder = cond (eqb remainder 2) 16 (cond (eqb remainder 3) 4 1)
 
 -- the unused low bits of the last character are zero
 unfoldable pub lowBitsZero : List ℕ → Bool
-lowBitsZero t = eqb (sextet (last t) % spare (length t % 4)) 0
+lowBitsZero t = eqb (sextet (last t) % lowBitsModulus (length t % 4)) 0
 
 -- every byte is of the alphabet, the length modulo 4 is not 1, and the unused low bits of the last character are zero
 unfoldable pub canonical : List ℕ → Bool

@@ -13,7 +13,7 @@ unfoldable pub isUnsigned : List ℕ → Bool
 isUnsigned [] = false
 isUnsigned (c ∷ s) = cond (eqb c 48) (empty s) (all isDigit (c ∷ s))
 
--- the number that digits say, after those that said n
+-- the value of digits, read on from n
 unfoldable pub valueFrom : ℕ → List ℕ → ℕ
 valueFrom n [] = n
 valueFrom n (c ∷ s) = valueFrom (n * 10 + (c - 48)) s
@@ -37,7 +37,7 @@ unfoldable pub isDecimal : List ℕ → Bool
 isDecimal [] = false
 isDecimal (c ∷ s) = cond (eqb c 45) (isUnsigned s && not (eqb (value s) 0)) (isUnsigned (c ∷ s))
 
--- the number that a decimal says
+-- the value of a decimal
 unfoldable pub decimalValue : List ℕ → ℤ
 decimalValue [] = pos 0
 decimalValue (c ∷ s) = cond (eqb c 45) (negℤ (pos (value s))) (pos (value (c ∷ s)))

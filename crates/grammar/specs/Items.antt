@@ -6,11 +6,11 @@ use mathlib.Core.Option.{none, some}
 use Rattle.grammar.specs.Text.{parts, join, cut}
 use Rattle.grammar.specs.Pieces.{Slot}
 
--- a name and a value
+-- 01's item: its name and its value
 abbrev pub Item : Type 0
 Item = List ℕ × List ℕ
 
--- With no `=` the value is empty, which no rule allows
+-- the items of a parameter piece. With no `=` the value is empty, which no rule allows
 abbrev pub items : List ℕ → List Item
 items s = map (cut 61) (parts 44 s)
 

@@ -6,9 +6,13 @@ use Prim.Native.Nat.{ℕ}
 abbrev pub longestName : ℕ
 longestName = 32
 
--- bytes of a value, of a salt and of an output
+-- bytes of a value and of a salt
 abbrev pub longestValue : ℕ
 longestValue = 128
+
+-- characters of an output
+abbrev pub longestOutput : ℕ
+longestOutput = 128
 
 abbrev pub mostItems : ℕ
 mostItems = 16

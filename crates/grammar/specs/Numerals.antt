@@ -41,7 +41,7 @@ signed malformed = Signed·Malformed
 signed outside = Signed·Outside
 signed (number z) = Number z
 
--- the paper's number for each outcome, and the number read
+-- document 01's number for each outcome, and the number read
 abbrev pub decimalAnswer : Signed → Decimal
 decimalAnswer Signed·Malformed = record { number = 11; value = pos 0 }
 decimalAnswer Signed·Outside = record { number = 11; value = pos 0 }
@@ -50,8 +50,9 @@ decimalAnswer (Number z) = record { number = 0; value = z }
 abbrev pub decimalReading : List ℕ → Decimal
 decimalReading s = decimalAnswer (signed (numeral least greatest s))
 
--- ---- the reader over a limit, for numerals that are never negative
+-- ---- the reader over a range of natural numbers; a negative decimal is outside it
 
+-- z is not negative here: the range begins at `pos low`
 abbrev pub limited : Numeral → Limited
 limited malformed = Limited·Malformed
 limited outside = Limited·Outside
@@ -60,7 +61,7 @@ limited (number z) = Value (natAbs z)
 unfoldable pub limitedReading : ℕ → ℕ → List ℕ → Limited
 limitedReading low high s = limited (numeral (pos low) (pos high) s)
 
--- the paper's number for each outcome
+-- document 01's number for each outcome
 abbrev pub limitedNumber : Limited → ℕ
 limitedNumber Limited·Malformed = 11
 limitedNumber Limited·Outside = 11

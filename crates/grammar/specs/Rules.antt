@@ -9,7 +9,7 @@ use Rattle.grammar.specs.Text.{text, within, all, same, empty, broken}
 use Rattle.grammar.specs.Bytes.{isText}
 use Rattle.grammar.specs.B64.{canonical}
 use Rattle.grammar.specs.Numerals.{limitedReading, limitedNumber}
-use Rattle.grammar.specs.Limits.{longestName, longestValue, mostItems, largestVersion, longestString}
+use Rattle.grammar.specs.Limits.{longestName, longestValue, longestOutput, mostItems, largestVersion, longestString}
 use Rattle.grammar.specs.Pieces.{Pieces, pieces}
 use Rattle.grammar.specs.Items.{Item, items}
 use Rattle.grammar.specs.declared.classes.Class.the-variants.{Name, Value}
@@ -24,7 +24,7 @@ isName s = isText Name longestName s
 abbrev pub isValue : List ℕ → Bool
 isValue s = isText Value longestValue s
 
--- after `v=` a shortest decimal, 0 to 4,294,967,295
+-- after `v=` a shortest decimal, 0 to 4,294,967,295. Asked only of a piece that begins with `v=`
 unfoldable pub isVersion : List ℕ → Bool
 isVersion s = eqb (limitedNumber (limitedReading 0 largestVersion (drop 2 s))) 0
 
@@ -38,7 +38,7 @@ isParams s = leb (length (items s)) mostItems && all isItem (items s)
 
 -- 1 to 128 characters, a canonical B64 text
 unfoldable pub isOutput : List ℕ → Bool
-isOutput s = within 1 longestValue (length s) && canonical s
+isOutput s = within 1 longestOutput (length s) && canonical s
 
 abbrev pub ruleOf : Piece → List ℕ → Bool
 ruleOf Id s = isName s

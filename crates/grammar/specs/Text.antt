@@ -1,12 +1,13 @@
 -- Texts as lists of numbers: tests on them, the parts between separators and the way back, a first element that passes a test.
 -- Assumes nothing.
-use Prim.Native.Nat.{ℕ, suc}
+use Prim.Native.Nat.{ℕ, suc, _+_}
 use Prim.Native.Char.{code}
 use Prim.Native.String.{String, [] as nil, _∷_ as _⊳_}
 use mathlib.Core.Bool.{Bool, true, false, not, cond, _&&_, _||_}
 use mathlib.Core.List.{List, [], _∷_, _++_}
 use mathlib.Core.Option.{Option, none, some}
 use lib.Dec.{leb, eqb}
+use lib.ListN.{drop}
 
 -- the bytes of a text of ASCII characters
 abbrev pub text : String → List ℕ
@@ -39,6 +40,11 @@ empty (x ∷ xs) = false
 abbrev pub find : ℕ → List ℕ → ℕ
 find d [] = 0
 find d (c ∷ cs) = cond (eqb c d) 0 (suc (find d cs))
+
+-- the place of the first d from a place on; the end where there is none.
+-- Free answer: past the end it is the place itself
+abbrev pub nextAt : ℕ → List ℕ → ℕ → ℕ
+nextAt d s from = from + find d (drop from s)
 
 -- the parts between the separators d: the first, and the others
 abbrev pub Parts : Type 0
@@ -83,7 +89,7 @@ abbrev pub listOf : {A : Type 0} → Option A → List A
 listOf none = []
 listOf (some x) = x ∷ []
 
--- there, and not as it should be
+-- present, and fails the test
 abbrev pub broken : {A : Type 0} → (A → Bool) → Option A → Bool
 broken ok none = false
 broken ok (some x) = not (ok x)

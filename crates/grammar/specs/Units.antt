@@ -14,6 +14,6 @@ charsOf bytes = bytes / 3 * 4 + (bytes % 3 * 4 + 2) / 3
 abbrev pub largestUsize : ℕ
 largestUsize = 2 ^ 64 - 1
 
--- Free answer: the largest usize where the characters are more than that, which they are for no slice's length
+-- Free answer: the largest usize where the characters are more than that. No slice has so many bytes
 abbrev pub charsWithin : ℕ → ℕ
 charsWithin bytes = min (charsOf bytes) largestUsize

@@ -49,7 +49,7 @@ fn all_in_alphabet(table: &[u8; 256], text: &[u8]) -> bool
 }
 
 // The length leaves no single character, and the unused low bits of the last one are zero.
-fn ends_well(table: &[u8; 256], text: &[u8]) -> bool
+fn has_canonical_end(table: &[u8; 256], text: &[u8]) -> bool
     requires { ⌜ Sextets (now table) ⌝ }
     ensures { λ r. ⌜ r ≡ (not (eqb (length (now (text .entry)) % 4) 1) && lowBitsZero (now (text .entry))) ⌝ }
 {
@@ -68,17 +68,18 @@ fn ends_well(table: &[u8; 256], text: &[u8]) -> bool
     }
 }
 
-// The same, with a table that is lent.
+// is_canonical, with the table lent.
 fn is_canonical_by(table: &[u8; 256], text: &[u8]) -> bool
     requires { ⌜ Sextets (now table) ⌝ }
     ensures { λ r. ⌜ r ≡ canonical (now (text .entry)) ⌝ }
 {
     if all_in_alphabet(table, text) {
-        return ends_well(table, text);
+        return has_canonical_end(table, text);
     }
     false
 }
 
+// Every byte is of the alphabet, the length modulo 4 is not 1, and the unused low bits of the last character are zero.
 pub fn is_canonical(text: &[u8]) -> bool
     ensures { λ r. ⌜ r ≡ canonical (now (text .entry)) ⌝ }
 {

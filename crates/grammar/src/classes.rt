@@ -5,6 +5,7 @@ ghost use mathlib.Core.Path.{_≡_};
 ghost use Rattle.grammar.specs.Text.{all};
 ghost use Rattle.grammar.specs.Bytes.{isDigit, inClass, isText};
 
+// The bytes of names, of values and salts, and of decimals.
 pub enum Class {
     Name,
     Value,

@@ -14,14 +14,14 @@ ghost use Rattle.grammar.specs.Decimal.{isUnsigned, value, digits, decim
 ghost use Rattle.grammar.specs.Numerals.{numeral, least, greatest, signed, decimalReading, limitedReading, decimalWriting};
 ghost use Rattle.grammar.specs.DecimalSteps.{upTo, unsignedReading, plain, minus, complementOf};
 
-// A text read as a decimal over a limit: none, one outside the limits, or its number.
+// A text read as a decimal over a range: no decimal, one outside the range, or its value.
 pub enum Limited {
     Malformed,
     Outside,
     Value(u64),
 }
 
-// A text read as a signed decimal: none, one outside i64, or its number.
+// A text read as a signed decimal: no decimal, one outside i64, or its number. Only the private readers use it.
 pub enum Signed {
     Malformed,
     Outside,
@@ -46,14 +46,14 @@ fn is_unsigned(text: &[u8]) -> bool
     all_of(text, Class::Digit)
 }
 
-// The number that a digit says.
+// The value of a digit.
 fn digit(c: u8) -> u64
     ensures { λ r. ⌜ r ≡ c - 48 ⌝ }
 {
     if c < 48 { 0 } else { (c - 48) as u64 }
 }
 
-// The number that digits say, where it is at most the limit. No step wraps.
+// The value of digits, where it is at most the limit. No step wraps.
 fn value_up_to(text: &[u8], limit: u64) -> Limited
     ensures { λ r. ⌜ r ≡ upTo limit (value (now (text .entry))) ⌝ }
 {

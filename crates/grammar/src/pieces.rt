@@ -7,6 +7,7 @@ use crate::units::Chars;
 ghost use mathlib.Core.Path.{_≡_};
 ghost use Rattle.grammar.specs.Layout.{refusedLayout, layout};
 
+// 01's pieces: the bytes after a `$`; the version includes its `v=`, the parameters their commas.
 pub enum Piece {
     Id,
     Version,
@@ -21,6 +22,7 @@ pub struct Span {
     pub len: Chars,
 }
 
+// Where the five pieces stand.
 pub struct Places {
     pub id: Span,
     pub version: Span,
@@ -56,6 +58,7 @@ fn refused(number: u8) -> Layout
     }
 }
 
+// The grammar reader: the first of rows 1 to 7 that applies, or the places and the number of items.
 pub fn read(s: &[u8]) -> Layout
     ensures { λ r. ⌜ r ≡ layout (now (s .entry)) ⌝ }
 {

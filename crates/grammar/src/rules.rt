@@ -8,6 +8,7 @@ use crate::decimal::read_within;
 use crate::items::is_params;
 use crate::items::item_count;
 use crate::limits::LARGEST_VERSION;
+use crate::limits::LONGEST_OUTPUT;
 use crate::limits::LONGEST_STRING;
 use crate::limits::LONGEST_VALUE;
 use crate::parts::part;
@@ -57,7 +58,7 @@ fn is_output(text: &[u8]) -> bool
     if text.len() < 1 {
         return false;
     }
-    if LONGEST_VALUE < text.len() {
+    if LONGEST_OUTPUT < text.len() {
         return false;
     }
     is_canonical(text)

@@ -1,12 +1,10 @@
 // Walks over texts: the next separator, and whether two texts are the same.
 ghost use mathlib.Core.Path.{_≡_};
-ghost use Prim.Native.Nat.{_+_};
-ghost use lib.ListN.{drop};
-ghost use Rattle.grammar.specs.Text.{same, find};
+ghost use Rattle.grammar.specs.Text.{same, nextAt};
 
-// The place of the first `byte` from `from` on; the end where there is none.
+// The place of the first `byte` from `from` on; the end where there is none, and `from` itself past the end.
 pub fn next_at(s: &[u8], from: usize, byte: u8) -> usize
-    ensures { λ r. ⌜ r ≡ from + find byte (drop from (now (s .entry))) ⌝ }
+    ensures { λ r. ⌜ r ≡ nextAt byte (now (s .entry)) from ⌝ }
 {
     let mut i = from;
     while i < s.len() {
@@ -18,6 +16,7 @@ pub fn next_at(s: &[u8], from: usize, byte: u8) -> usize
     i
 }
 
+// Whether two texts have the same bytes.
 pub fn same_text(a: &[u8], b: &[u8]) -> bool
     ensures { λ r. ⌜ r ≡ same (now (a .entry)) (now (b .entry)) ⌝ }
 {

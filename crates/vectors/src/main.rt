@@ -1,9 +1,12 @@
 // Worked examples, run: RFC 4648's test vectors without padding, decimals on either side of their rule, and strings of the grammar.
 // Buffers are filled with dots and lent from a place in their middle, so that the bytes around what is written show.
+use grammar::decimal::Limited;
+use grammar::decimal::read_within;
 use grammar::parts::item_name;
 use grammar::parts::item_value;
 use grammar::parts::piece;
 use grammar::pieces::Piece;
+use grammar::pieces::Span;
 use libc::STDOUT_FILENO;
 
 fn show(text: &[u8]) {
@@ -48,13 +51,48 @@ fn decoded(text: &[u8], at: usize) {
 }
 
 // The number read is written again.
-fn decimal(text: &[u8]) {
+fn decimal(text: &[u8], at: usize) {
     let d = grammar::decimal::read_decimal(text);
     let mut buf = [46u8; 24];
-    let w = grammar::decimal::write_decimal(d.value, &mut buf, 2);
+    let w = grammar::decimal::write_decimal(d.value, &mut buf, at);
     field(b"decimal");
     field(text);
-    outcome(d.number, w.count.0, &buf);
+    number(d.number as u64);
+    number(at as u64);
+    outcome(w.number, w.count.0, &buf);
+}
+
+// A text read over a range: M malformed, O outside, or the value.
+fn ranged(text: &[u8], low: u64, high: u64) {
+    field(b"range");
+    field(text);
+    number(low);
+    number(high);
+    match read_within(text, low, high) {
+        Limited::Malformed => show(b"M"),
+        Limited::Outside => show(b"O"),
+        Limited::Value(n) => number(n),
+    }
+    show(b"\n");
+}
+
+// The place and the length of a piece.
+fn span(w: Span) {
+    number(w.at as u64);
+    number(w.len.0 as u64);
+}
+
+fn spans(s: &[u8]) {
+    let layout = grammar::pieces::read(s);
+    let places = layout.places;
+    field(b"places");
+    field(s);
+    span(places.id);
+    span(places.version);
+    span(places.params);
+    span(places.salt);
+    span(places.output);
+    show(b"\n");
 }
 
 fn pieces(s: &[u8]) {
@@ -136,25 +174,27 @@ fn decoder_more() {
 }
 
 fn decimals() {
-    decimal(b"0");
-    decimal(b"");
-    decimal(b"-");
-    decimal(b"-0");
-    decimal(b"+1");
-    decimal(b"00");
-    decimal(b"05");
-    decimal(b"-5");
-    decimal(b"--5");
+    decimal(b"0", 2);
+    decimal(b"", 2);
+    decimal(b"-", 2);
+    decimal(b"-0", 2);
+    decimal(b"+1", 2);
+    decimal(b"00", 2);
+    decimal(b"05", 2);
+    decimal(b"-5", 2);
+    decimal(b"--5", 2);
 }
 
 fn decimals_more() {
-    decimal(b"5 ");
-    decimal(b"4294967296");
-    decimal(b"9223372036854775807");
-    decimal(b"9223372036854775808");
-    decimal(b"-9223372036854775808");
-    decimal(b"-9223372036854775809");
-    decimal(b"99999999999999999999999999999999");
+    decimal(b"5 ", 2);
+    decimal(b"4294967296", 2);
+    decimal(b"9223372036854775807", 2);
+    decimal(b"9223372036854775808", 2);
+    decimal(b"-9223372036854775808", 2);
+    decimal(b"-9223372036854775809", 2);
+    decimal(b"99999999999999999999999999999999", 2);
+    decimal(b"-9223372036854775808", 4);
+    decimal(b"-9223372036854775808", 5);
 }
 
 fn strings() {
@@ -193,6 +233,39 @@ fn strings_last() {
     string(b"$a$s,t$Zg$");
 }
 
+fn ranges() {
+    ranged(b"0", 0, 4294967295);
+    ranged(b"4294967295", 0, 4294967295);
+    ranged(b"4294967296", 0, 4294967295);
+    ranged(b"-5", 0, 4294967295);
+    ranged(b"-0", 0, 4294967295);
+    ranged(b"05", 0, 4294967295);
+    ranged(b"99", 100, 200);
+    ranged(b"100", 100, 200);
+    ranged(b"200", 100, 200);
+}
+
+fn layouts() {
+    spans(b"$a");
+    spans(b"$a$v=1");
+    spans(b"$a$m=1");
+    spans(b"$a$salt");
+    spans(b"$ab$v=16$m=1,t=2$salt$Zg");
+    spans(b"$a$");
+}
+
+// The nearest accepted and refused strings of some rules.
+fn neighbours() {
+    string(b"$abcdefghijklmnopqrstuvwxyz-01234");
+    string(b"$a$v=0");
+    string(b"$a$v=4294967295");
+    string(b"$a$a=1,b=2,c=3,d=4,e=5,f=6,g=7,h=8,i=9,j=1,k=2,l=3,m=4,n=5,o=6,p=7");
+    string(b"$a$m=1,n");
+    string(b"$a$=1");
+    string(b"$a$m=1$n=2");
+    string(b"$a$salt$v=1");
+}
+
 fn main() {
     encoder();
     places();
@@ -203,4 +276,7 @@ fn main() {
     strings();
     strings_more();
     strings_last();
+    neighbours();
+    ranges();
+    layouts();
 }

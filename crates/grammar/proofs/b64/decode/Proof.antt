@@ -7,16 +7,15 @@ use mathlib.Core.Bool.{Bool, cond}
 use borrow.Author.Needs.{needs}
 use borrow.Author.Tests.{leb-true, leb-false}
 use lib.ListN.{length, length-drop}
-use Rattle.grammar.specs.B64.{sextet, decode, decodeNumber}
+use Rattle.grammar.specs.B64.{decode, decodeNumber}
 use Rattle.grammar.proofs.B64Laws.{length-decode}
-use Rattle.grammar.proofs.Table.{table-rule}
+use Rattle.grammar.proofs.TableRules.{sextets-rule}
 use Rattle.grammar.proofs.Writing.{put-done, put-full, put-clear, put-refused, tail-part, tail-over}
 use Rattle.grammar.proofs.b64.decode.Statement.{statement}
 use Rattle.grammar.proofs.b64.decode.Tie as tie
 
 is-canonical-by-requires : tie.Need-is-canonical-by-requires
-unfolding sextet
-is-canonical-by-requires c κs = λ x h. rw (table-rule sextet _ refl x h)
+is-canonical-by-requires c κs = sextets-rule
 
 decoded-len-requires : tie.Need-decoded-len-requires
 decoded-len-requires c κs = search needs
@@ -49,11 +48,10 @@ part-decode-all-end : tie.Need-part-decode-all-end
 part-decode-all-end c = search needs
 
 decode-all-requires : tie.Need-decode-all-requires
-unfolding sextet
 decode-all-requires c κs =
     let a = c .before .before .before .before .before .before .before .before .before .args in (
       sym (c .before .before .before .before .before .is-canonical-by .ensures) ∙ c .before .before .before .before .if1 .taken,
-      (simp (tail-part (a .buf .now) (a .at), length-drop) (omega (arith, room (c .before))), λ x h. rw (table-rule sextet _ refl x h)),
+      (simp (tail-part (a .buf .now) (a .at), length-drop) (omega (arith, room (c .before))), sextets-rule),
     )
 
 same-length : tie.Need-same-length

@@ -6,9 +6,9 @@ use mathlib.Core.Path.{_≡_, refl, sym, _∙_}
 use borrow.Author.Needs.{needs}
 use borrow.Author.Tests.{leb-true, leb-false}
 use lib.ListN.{length, length-drop}
-use Rattle.grammar.specs.B64.{letter, encode}
+use Rattle.grammar.specs.B64.{encode}
 use Rattle.grammar.proofs.B64Laws.{length-encode}
-use Rattle.grammar.proofs.Table.{table-rule}
+use Rattle.grammar.proofs.TableRules.{letters-rule}
 use Rattle.grammar.proofs.Writing.{put-done, put-full, tail-part, tail-over}
 use Rattle.grammar.proofs.b64.encode.Statement.{statement}
 use Rattle.grammar.proofs.b64.encode.Tie as tie
@@ -45,10 +45,9 @@ part-encode-all-end : tie.Need-part-encode-all-end
 part-encode-all-end c = search needs
 
 encode-all-requires : tie.Need-encode-all-requires
-unfolding letter
 encode-all-requires c κs =
     let a = c .before .before .before .before .before .before .before .args in
-    (simp (tail-part (a .buf .now) (a .at), length-drop) (omega (arith, room (c .before))), λ x h. rw (table-rule letter _ refl x h))
+    (simp (tail-part (a .buf .now) (a .at), length-drop) (omega (arith, room (c .before))), letters-rule)
 
 same-length : tie.Need-same-length
 same-length c = search needs

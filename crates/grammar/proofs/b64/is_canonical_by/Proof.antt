@@ -9,13 +9,13 @@ use Rattle.grammar.proofs.b64.is_canonical_by.Tie as tie
 all-in-alphabet-requires : tie.Need-all-in-alphabet-requires
 all-in-alphabet-requires c κs = search needs
 
-ends-well-requires : tie.Need-ends-well-requires
-ends-well-requires c κs = search needs
+has-canonical-end-requires : tie.Need-has-canonical-end-requires
+has-canonical-end-requires c κs = search needs
 
 returns : tie.Need-returns
 returns c =
     let p = c .before .before in
-    c .ends-well .ensures ∙ sym (canonical-in (p .before .before .args .text .now) (sym (c .before .if1 .taken) ∙ p .all-in-alphabet .ensures))
+    c .has-canonical-end .ensures ∙ sym (canonical-in (p .before .before .args .text .now) (sym (c .before .if1 .taken) ∙ p .all-in-alphabet .ensures))
 
 returns-2 : tie.Need-returns-2
 returns-2 c =
@@ -23,4 +23,4 @@ returns-2 c =
     sym (canonical-out (p .before .before .args .text .now) (sym (c .if1 .left) ∙ p .all-in-alphabet .ensures))
 
 pub is-canonical-by-spec : {M : Type 1} → statement M
-is-canonical-by-spec = tie.close (tie.spec all-in-alphabet-requires ends-well-requires returns returns-2)
+is-canonical-by-spec = tie.close (tie.spec all-in-alphabet-requires has-canonical-end-requires returns returns-2)

@@ -1,4 +1,4 @@
--- `grammar::b64::ends_well` meets its contract.
+-- `grammar::b64::has_canonical_end` meets its contract.
 -- Assumes nothing.
 use native.Mathlib.Omega.{arith}
 use Prim.Native.Nat.{ℕ, _%_}
@@ -6,8 +6,8 @@ use mathlib.Core.Path.{_∙_, ap}
 use lib.Dec.{eqb}
 use Rattle.grammar.proofs.B64Code.{ends-0, ends-1, ends-2, ends-3}
 use borrow.Author.Needs.{needs}
-use Rattle.grammar.proofs.b64.ends_well.Statement.{statement}
-use Rattle.grammar.proofs.b64.ends_well.Tie as tie
+use Rattle.grammar.proofs.b64.has_canonical_end.Statement.{statement}
+use Rattle.grammar.proofs.b64.has_canonical_end.Tie as tie
 
 returns : tie.Need-returns
 returns c = ends-0 (c .before .before .args .text .now) (omega arith)
@@ -34,8 +34,8 @@ returns-4 c =
     let t = c .before .before .before .before .before .before .args .text .now in
     ap (λ (x : ℕ). eqb (x % 4) 0) (c .before .sextet-of .ensures) ∙ ends-3 t (omega arith)
 
-pub ends-well-spec : {M : Type 1} → statement M
-ends-well-spec =
+pub has-canonical-end-spec : {M : Type 1} → statement M
+has-canonical-end-spec =
     tie.close
     (tie.spec
     returns
