@@ -34,11 +34,11 @@ use Rattle.grammar.proofs.Reading.{accepted-rows}
 -- ---- lengths
 
 -- the bytes of pieces, each with a separator before it
-total : List (List ℕ) → ℕ
+unfoldable pub total : List (List ℕ) → ℕ
 total [] = 0
 total (q ∷ qs) = suc (length q + total qs)
 
-join-length : (d : ℕ) (p : List ℕ) (qs : List (List ℕ)) → length (join d p qs) ≡ length p + total qs
+pub join-length : (d : ℕ) (p : List ℕ) (qs : List (List ℕ)) → length (join d p qs) ≡ length p + total qs
 unfolding total
 join-length d p [] = omega arith
 join-length d p (q ∷ qs) = let h = join-length d q qs in omega (arith, length-append p (d ∷ join d q qs))

@@ -1,0 +1,170 @@
+-- An accepted string carries permitted fields, and they are written back to exactly that string, in every edition that passes the
+-- test `sound`.
+-- Assumes nothing.
+use Prim.Native.Nat.{ℕ}
+use mathlib.Core.Bool.{Bool, true, false, not, cond, _&&_, false≢true}
+use mathlib.Core.List.{List, [], _∷_, _++_}
+use mathlib.Core.Option.{Option, none, some}
+use mathlib.Core.Path.{_≡_, refl, sym, _∙_, ap}
+use native.Mathlib.Omega.{arith}
+use lib.Dec.{leb}
+use lib.ListN.{length}
+use borrow.Author.Tests.{ltb-false}
+use Rattle.grammar.specs.Text.{within, all, empty, split, headIf, tailIf, broken}
+use Rattle.grammar.specs.Bytes.{isText}
+use Rattle.grammar.specs.B64.{canonical, decode}
+use Rattle.grammar.specs.Limits.{longestValue, mostItems}
+use Rattle.grammar.specs.Pieces.{Slot, Pieces, isVersionPiece, belongs, afterFirst, pieces, string}
+use Rattle.grammar.specs.Items.{Item, items, itemsOf, paramsText}
+use Rattle.grammar.specs.Rules.{isValue, isItem, isParams, isOutput, pieceRows, grammarRows}
+use Rattle.grammar.specs.declared.pieces.Piece.the-variants.{Version, Params, Salt, Output}
+use Rattle.grammar.proofs.Tests.{both, and-true, neither, not-of-true, is-true}
+use Rattle.grammar.proofs.Rows.{Clear, clear}
+use Rattle.grammar.proofs.B64Laws.{canonical-values}
+use Rattle.grammar.proofs.ItemLaws.{item-value, params-items}
+use Rattle.grammar.proofs.PieceLaws.{string-pieces}
+use Rattle.grammar.proofs.Reading.{whole-starts}
+use Rattle.profile.specs.declared.limits.BytesRule.{BytesRule}
+use Rattle.profile.specs.Limits.{Profile, idOf, profileOf, versionAllowed}
+use Rattle.profile.specs.Fields.{isSized, isBytes, readBytes, writeBytes, readVersion}
+use Rattle.profile.specs.Reader.{names, named, itemValue, slots, strangers, slotAt, misplaced, profileRows, answer, carried, fieldsOf}
+use Rattle.profile.specs.Writer.{Permitted, itemList, fieldSlots, fieldPieces, formatted}
+use Rattle.profile.proofs.Codecs.{number-back, bytes-back, version-back}
+use Rattle.profile.proofs.Slots.{list-slots}
+use Rattle.profile.proofs.Table.{sound, entry-at, name-of}
+use Rattle.profile.proofs.Written.{Goods, After}
+
+-- ---- what the sorting tells
+
+head-passes : (f : List ℕ → Bool) (l : List (List ℕ)) → broken f (headIf f l) ≡ false
+head-passes f [] = refl
+head-passes f (x ∷ l) = go (f x) refl
+  where
+    go : (b : Bool) → f x ≡ b → broken f (cond {A = Slot} b (some x) none) ≡ false
+    go true e = not-of-true e
+    go false e = refl
+
+version-begins : (s : List ℕ) → broken isVersionPiece (pieces s .version) ≡ false
+unfolding pieces
+version-begins s = head-passes (belongs Version) (split 36 (afterFirst s) .1)
+
+salt-before : (l : List (List ℕ)) → After (headIf (belongs Salt) l) (headIf (belongs Output) (tailIf (belongs Salt) l))
+salt-before [] = tt
+salt-before (x ∷ l) = tt
+
+salt-first : (s : List ℕ) → After (pieces s .salt) (pieces s .output)
+unfolding pieces
+salt-first s = salt-before (tailIf (belongs Params) (tailIf (belongs Version) (split 36 (afterFirst s) .1)))
+
+-- ---- what the grammar's rows tell
+
+slots-good : (ns : List (List ℕ)) (is : List Item) → all isItem is ≡ true → Goods (slots ns is)
+slots-good [] is e = tt
+slots-good (n ∷ ns) [] e = (refl, slots-good ns [] refl)
+slots-good (n ∷ ns) (i ∷ is) e =
+    (first (named n i), slots-good ns (tailIf (named n) (i ∷ is)) (others (named n i)))
+  where
+    q : (isItem i ≡ true) × (all isItem is ≡ true)
+    q = both (isItem i) (all isItem is) e
+
+    first : (b : Bool) → broken isValue (itemValue (cond {A = Option Item} b (some i) none)) ≡ false
+    first true = not-of-true (item-value i (q .0))
+    first false = refl
+
+    others : (b : Bool) → all isItem (cond b is (i ∷ is)) ≡ true
+    others true = q .1
+    others false = e
+
+params-all : (s : Slot) → broken isParams s ≡ false → (all isItem (itemsOf s) ≡ true) × (paramsText (itemsOf s) ≡ s)
+unfolding isParams
+params-all none e = (refl, refl)
+params-all (some s) e =
+    let q = both (leb (length (items s)) mostItems) (all isItem (items s)) (is-true (isParams s) e) in
+    (q .1, params-items s (q .1))
+
+nothing : {A : Type 0} (l : List A) → empty l ≡ true → l ≡ []
+nothing [] e = refl
+nothing (x ∷ l) e = absurd (false≢true e)
+
+-- an output is canonical by the grammar, and of a permitted size by the profile
+output-bytes : (r : BytesRule) (s : Slot) → broken isOutput s ≡ false → broken (isSized r) s ≡ false → (broken isValue s ≡ false) × (broken (isBytes r) s ≡ false)
+unfolding isOutput isText
+output-bytes r none o e = (refl, refl)
+output-bytes r (some t) o e =
+    let q = both (within 1 longestValue (length t)) (canonical t) (is-true (isOutput t) o) in
+    (not-of-true (and-true (q .0) (canonical-values t (q .1))), not-of-true (and-true (q .1) (is-true (isSized r t) e)))
+
+-- no output without a salt: a salt that is there has a byte
+ordered : (salt output : Slot) → After salt output → writeBytes (readBytes salt) ≡ salt → (empty (readBytes salt) && not (empty (readBytes output))) ≡ false
+ordered none none a w = refl
+ordered none (some o) a w = absurd a
+ordered (some s) output a w = go (decode s) w
+  where
+    go : (l : List ℕ) → writeBytes l ≡ some s → (empty l && not (empty (readBytes output))) ≡ false
+    go [] w = let z : _≡_ {A = ℕ} 0 1 = cc in absurd (omega arith)
+    go (b ∷ l) w = refl
+
+module _ (e : List Profile) (ok : sound e ≡ true) where
+  -- what is read of the pieces is permitted, and is written to the same pieces
+  back : (p : Pieces) → broken isVersionPiece (p .version) ≡ false → After (p .salt) (p .output)
+      → Clear (pieceRows p) → Clear (profileRows e p)
+      → Permitted e (carried e p) × (fieldPieces e (carried e p) ≡ p)
+  unfolding fieldPieces
+  back p v a (g2, (g3, (g4, (g5, (g6, (g7, g)))))) (r8, (r9, (r10, (r11, (r12, (r13, (r14, (r15, u)))))))) =
+      let is = itemsOf (p .params) in
+      let vs = slots names is in
+      let k = idOf e (p .id) in
+      let r = profileOf e k in
+      let N = name-of e (p .id) r8 in
+      let E = entry-at e ok k (N .1) in
+      let P = params-all (p .params) g4 in
+      let G = slots-good names is (P .0) in
+      let s10 = neither (not (empty (strangers names is))) (misplaced r vs) r10 in
+      let place₄ = neither _ _ (s10 .1) in
+      let place₃ = neither _ _ (place₄ .0) in
+      let place₂ = neither _ _ (place₃ .0) in
+      let place₁ = neither _ _ (place₂ .0) in
+      let s11 = neither _ _ r11 in
+      let number₂ = neither _ _ (s11 .0) in
+      let number₁ = neither _ _ (number₂ .0) in
+      let s12 = neither _ _ r12 in
+      let short₂ = neither _ _ r13 in
+      let short₁ = neither _ _ (short₂ .0) in
+      let m = number-back (r .m) (slotAt vs 0) (E .m) (place₁ .0) (number₁ .0) (short₁ .0) in
+      let t = number-back (r .t) (slotAt vs 1) (E .t) (place₁ .1) (number₁ .1) (short₁ .1) in
+      let l = number-back (r .p) (slotAt vs 2) (E .p) (place₂ .1) (number₂ .1) (short₂ .1) in
+      let keyid = bytes-back (r .keyid) (slotAt vs 3) (G .1 .1 .1 .0) (s12 .0) in
+      let ad = bytes-back (r .ad) (slotAt vs 4) (G .1 .1 .1 .1 .0) (s12 .1) in
+      let salt = bytes-back (r .salt) (p .salt) g5 r14 in
+      let o = output-bytes (r .output) (p .output) g6 r15 in
+      let output = bytes-back (r .output) (p .output) (o .0) (o .1) in
+      let left = nothing (strangers names is) (is-true (empty (strangers names is)) (s10 .0)) in
+      let same-slots : fieldSlots r (carried e p) ≡ vs = λ i. m .1 i ∷ t .1 i ∷ l .1 i ∷ keyid .1 i ∷ ad .1 i ∷ [] in
+      let same-params : paramsText (itemList names (fieldSlots r (carried e p))) ≡ p .params =
+      ap (λ (x : List Slot). paramsText (itemList names x)) same-slots ∙ ap paramsText (list-slots names is left) ∙ P .1 in
+      let same-version = version-back (p .version) v g3 in
+      let same-more = sym (nothing (p .more) (is-true (empty (p .more)) g7)) in (
+        record {
+          id = N .1;
+          version = is-true (versionAllowed r (readVersion (p .version))) r9;
+          m = m .0;
+          t = t .0;
+          p = l .0;
+          lanes = ltb-false _ _ (s11 .1);
+          keyid = keyid .0;
+          ad = ad .0;
+          salt = salt .0;
+          output = output .0;
+          order = ordered (p .salt) (p .output) a (salt .1);
+          bytes = (keyid .2, ad .2, salt .2, output .2);
+        },
+        λ i. record { id = N .0 i; version = same-version i; params = same-params i; salt = salt .1 i; output = output .1 i; more = same-more i },
+      )
+
+  pub accepted : (s : List ℕ) → answer e s ≡ 0 → Permitted e (fieldsOf e s) × (formatted e (fieldsOf e s) ≡ s)
+  unfolding answer fieldsOf formatted
+  accepted s z =
+      let p = pieces s in
+      let (g1, (g2, (g3, (g4, (g5, (g6, (g7, r))))))) = clear (grammarRows s ++ profileRows e p) refl z in
+      let b = back p (version-begins s) (salt-first s) (g2, (g3, (g4, (g5, (g6, (g7, tt)))))) r in
+      (b .0, ap string (b .1) ∙ string-pieces s (whole-starts s g1))

@@ -1,0 +1,230 @@
+-- One number, one byte string and the version: what is read back from what is written, and the other way round.
+-- Assumes nothing.
+use Prim.Native.Nat.{ℕ, suc, _+_, _/_, _%_, _≤_}
+use mathlib.Core.Bool.{Bool, true, false, cond, _&&_, _||_, or-true, true≢false, false≢true}
+use mathlib.Core.List.{List, [], _∷_}
+use mathlib.Core.Option.{none, some}
+use mathlib.Core.Path.{_≡_, refl, sym, _∙_, ap}
+use native.Mathlib.Omega.{arith}
+use lib.Dec.{leb, eqb}
+use lib.ListN.{length}
+use borrow.Author.Tests.{eqb-true, eq-eqb, leb-true}
+use Rattle.grammar.specs.Text.{within, all, has, empty, broken}
+use Rattle.grammar.specs.Bytes.{isByte, isValueByte, isText}
+use Rattle.grammar.specs.Units.{charsOf}
+use Rattle.grammar.specs.Limits.{longestValue, largestVersion}
+use Rattle.grammar.specs.Decimal.{digits}
+use Rattle.grammar.specs.Numerals.{limitedReading, limitedNumber, limitedValue}
+use Rattle.grammar.specs.B64.{canonical, decode, encode}
+use Rattle.grammar.specs.Pieces.{Slot, isVersionPiece}
+use Rattle.grammar.specs.Rules.{isValue, isVersion, isOutput}
+use Rattle.grammar.specs.declared.decimal.Limited.{Limited}
+use Rattle.grammar.specs.declared.decimal.Limited.the-variants.{Malformed, Outside, Value}
+use Rattle.grammar.proofs.Tests.{both, and-true, not-of-true, is-true, from-within, to-within}
+use Rattle.grammar.proofs.Lists.{all-append}
+use Rattle.grammar.proofs.DecimalLaws.{by-tens, digits-small, digits-step, length-pos, length-digits}
+use Rattle.grammar.proofs.NumeralLaws.{limited-digits, digits-limited}
+use Rattle.grammar.proofs.B64Laws.{encode-decode, decode-encode, canonical-encode, bytes-decode, canonical-values, length-encode}
+use Rattle.profile.specs.declared.limits.NumberRule.{NumberRule}
+use Rattle.profile.specs.declared.limits.NumberRule.the-variants.{Needed, Omitted, Fixed}
+use Rattle.profile.specs.declared.limits.BytesRule.{BytesRule}
+use Rattle.profile.specs.declared.limits.BytesRule.the-variants.{Sized, Barred}
+use Rattle.profile.specs.Limits.{Profile, inRange, versionAllowed, largest32}
+use Rattle.profile.specs.Fields.{isNumber, misplacedNumber, readNumber, writtenOut, writeNumber, misplacedBytes, isSized, isBytes, readBytes, writeBytes, readVersion, writeVersion}
+use Rattle.profile.specs.Writer.{bytesAllowed}
+use Rattle.profile.specs.declared.fields.Version.{Version}
+use Rattle.profile.specs.declared.fields.Version.the-variants.{Absent, Number}
+
+-- ---- what an entry has to satisfy
+
+-- numbers of 32 bits; what is left out is permitted
+abbrev pub soundNumber : NumberRule → Bool
+soundNumber (Needed low high) = leb high largest32
+soundNumber (Omitted low high given) = leb high largest32 && within low high given
+soundNumber (Fixed given) = true
+
+-- byte strings whose text the grammar takes
+abbrev pub soundBytes : BytesRule → Bool
+soundBytes (Sized low high) = leb (charsOf (high .0)) longestValue
+soundBytes Barred = true
+
+-- ---- texts of numbers, over any limits
+
+-- a text that is read says a number within the limits, and is that number's text
+limited-is : (low high : ℕ) (t : List ℕ) (r : Limited) → limitedReading low high t ≡ r → eqb (limitedNumber r) 0 ≡ true
+    → (within low high (limitedValue r) ≡ true) × (digits (limitedValue r) ≡ t)
+limited-is low high t Malformed q e = absurd (false≢true e)
+limited-is low high t Outside q e = absurd (false≢true e)
+limited-is low high t (Value n) q e = let p = digits-limited low high t n q in (to-within low high n (p .1) (p .2), sym (p .0))
+
+limited-back : (low high : ℕ) (t : List ℕ) → eqb (limitedNumber (limitedReading low high t)) 0 ≡ true
+    → (within low high (limitedValue (limitedReading low high t)) ≡ true) × (digits (limitedValue (limitedReading low high t)) ≡ t)
+limited-back low high t e = limited-is low high t (limitedReading low high t) refl e
+
+-- the text of a number within the limits is read as that number
+limited-forth : (low high n : ℕ) → within low high n ≡ true → limitedReading low high (digits n) ≡ Value n
+limited-forth low high n e = let w = from-within low high n e in limited-digits low high n (w .0) (w .1)
+
+digit-value : (c : ℕ) → 48 ≤ c → c ≤ 57 → isValueByte c ≡ true
+unfolding isValueByte
+digit-value c l h = rw (to-within 48 57 c l h, or-true)
+
+pub digits-values : (n : ℕ) → all isValueByte (digits n) ≡ true
+digits-values =
+    by-tens (λ n. all isValueByte (digits n) ≡ true)
+    (λ n h. rw (digits-small n h) (and-true (digit-value (48 + n) (omega arith) (omega arith)) refl))
+    (λ n h e. rw (digits-step n h)
+    (all-append isValueByte (digits (n / 10)) ((48 + n % 10) ∷ []) e (and-true (digit-value (48 + n % 10) (omega arith) (omega arith)) refl)))
+
+-- the text of a number of 32 bits is a value
+digits-good : (n : ℕ) → n ≤ largest32 → isValue (digits n) ≡ true
+unfolding isText
+digits-good n h =
+    let l : length (digits n) ≤ 10 = length-digits 9 n (omega arith) in
+    let k = length-pos n in
+    and-true (to-within 1 128 (length (digits n)) (omega arith) (omega arith)) (digits-values n)
+
+-- ---- numbers
+
+pub number-back : (r : NumberRule) (s : Slot) → soundNumber r ≡ true
+    → misplacedNumber r s ≡ false → broken (isNumber r) s ≡ false → writtenOut r s ≡ false
+    → (inRange r (readNumber r s) ≡ true) × (writeNumber r (readNumber r s) ≡ s)
+number-back (Needed low high) none k a b c = absurd (true≢false a)
+number-back (Needed low high) (some t) k a b c =
+    let q = limited-back low high t (is-true _ b) in
+    (q .0, ap {B = Slot} some (q .1))
+number-back (Omitted low high given) none k a b c =
+    (both (leb high largest32) (within low high given) k .1, rw (eq-eqb given given refl))
+number-back (Omitted low high given) (some t) k a b c =
+    let q = limited-back low high t (is-true _ b) in
+    (q .0, rw c (ap {B = Slot} some (q .1)))
+number-back (Fixed given) none k a b c = (to-within given given given (omega arith) (omega arith), refl)
+number-back (Fixed given) (some t) k a b c = absurd (true≢false a)
+
+-- what a written slot satisfies
+pub record NumberWritten (r : NumberRule) (n : ℕ) (s : Slot) : Type 0 where
+  pub placed : misplacedNumber r s ≡ false
+  pub number : broken (isNumber r) s ≡ false
+  pub short : writtenOut r s ≡ false
+  pub reads : readNumber r s ≡ n
+  pub good : broken isValue s ≡ false
+
+pub number-forth : (r : NumberRule) (n : ℕ) → soundNumber r ≡ true → inRange r n ≡ true → NumberWritten r n (writeNumber r n)
+number-forth (Needed low high) n k e =
+    let q = limited-forth low high n e in
+    let h = leb-true high largest32 k in
+    let w = from-within low high n e in
+    record {
+      placed = refl;
+      number = rw q;
+      short = refl;
+      reads = rw q;
+      good = not-of-true (digits-good n (omega arith));
+    }
+number-forth (Omitted low high given) n k e = go (eqb n given) refl
+  where
+    go : (b : Bool) → eqb n given ≡ b → NumberWritten (Omitted low high given) n (cond b none (some (digits n)))
+    go true q = record { placed = refl; number = refl; short = refl; reads = sym (eqb-true n given q); good = refl }
+    go false p =
+        let q = limited-forth low high n e in
+        let h = leb-true high largest32 (both (leb high largest32) (within low high given) k .0) in
+        let w = from-within low high n e in
+        record {
+          placed = refl;
+          number = rw q;
+          short = rw q p;
+          reads = rw q;
+          good = not-of-true (digits-good n (omega arith));
+        }
+number-forth (Fixed given) n k e =
+    let w = from-within given given n e in
+    record { placed = refl; number = refl; short = refl; reads = omega arith; good = refl }
+
+-- ---- byte strings
+
+-- a text that is there has a byte
+filled : (t bs : List ℕ) → broken isValue (some t) ≡ false → encode bs ≡ t → (empty bs ≡ false) × (writeBytes bs ≡ some t)
+unfolding isText encode
+filled [] bs e q = absurd (true≢false e)
+filled (c ∷ t) [] e q = let z : 0 ≡ suc (length t) = ap length q in absurd (omega arith)
+filled (c ∷ t) (b ∷ bs) e q = (refl, ap {B = Slot} some q)
+
+pub bytes-back : (r : BytesRule) (s : Slot) → broken isValue s ≡ false → broken (isBytes r) s ≡ false
+    → (bytesAllowed r (readBytes s) ≡ true) × (writeBytes (readBytes s) ≡ s) × (all isByte (readBytes s) ≡ true)
+bytes-back r none v e = (refl, refl, refl)
+bytes-back r (some t) v e =
+    let q = both (canonical t) (isSized r t) (is-true (isBytes r t) e) in
+    let u = filled t (decode t) v (encode-decode t (q .0)) in
+    (rw (u .0, q .1), u .1, bytes-decode t (q .0))
+
+pub record BytesWritten (r : BytesRule) (bs : List ℕ) (s : Slot) : Type 0 where
+  pub placed : misplacedBytes r s ≡ false
+  pub bytes : broken (isBytes r) s ≡ false
+  pub sized : broken (isSized r) s ≡ false
+  pub reads : readBytes s ≡ bs
+  pub good : broken isValue s ≡ false
+  pub output : broken isOutput s ≡ false
+
+pub bytes-forth : (r : BytesRule) (bs : List ℕ) → soundBytes r ≡ true → all isByte bs ≡ true → bytesAllowed r bs ≡ true → BytesWritten r bs (writeBytes bs)
+unfolding isOutput isText
+bytes-forth r [] k a e = record { placed = go r; bytes = refl; sized = refl; reads = refl; good = refl; output = refl }
+  where
+    go : (r : BytesRule) → misplacedBytes r none ≡ false
+    go (Sized low high) = refl
+    go Barred = refl
+bytes-forth (Sized low high) (b ∷ bs) k a e =
+    let x = b ∷ bs in
+    let d = decode-encode x a in
+    let c = canonical-encode x a in
+    let l = length-encode x in
+    let w = from-within (low .0) (high .0) (length x) e in
+    let h = leb-true (charsOf (high .0)) longestValue k in
+    let n = to-within 1 128 (length (encode x)) (omega arith) (omega arith) in
+    let z : isSized (Sized low high) (encode x) ≡ true = ap (λ (l : List ℕ). within (low .0) (high .0) (length l)) d ∙ e in
+    record {
+      placed = refl;
+      bytes = not-of-true (and-true c z);
+      sized = not-of-true z;
+      reads = d;
+      good = not-of-true (and-true n (canonical-values (encode x) c));
+      output = not-of-true (and-true n c);
+    }
+bytes-forth Barred (b ∷ bs) k a e = absurd (false≢true e)
+
+-- ---- the version
+
+pub version-back : (s : Slot) → broken isVersionPiece s ≡ false → broken isVersion s ≡ false → writeVersion (readVersion s) ≡ s
+unfolding isVersion
+version-back none p e = refl
+version-back (some []) p e = absurd (true≢false p)
+version-back (some (c ∷ [])) p e = absurd (true≢false p)
+version-back (some (c ∷ d ∷ t)) p e =
+    let q = both (eqb c 118) (eqb d 61) (is-true (isVersionPiece (c ∷ d ∷ t)) p) in
+    let v = limited-back 0 largestVersion t (is-true (isVersion (c ∷ d ∷ t)) e) in
+    let a = sym (eqb-true c 118 (q .0)) in
+    let b = sym (eqb-true d 61 (q .1)) in
+    ap {B = Slot} some (λ i. a i ∷ b i ∷ v .1 i)
+
+pub record VersionWritten (v : Version) (s : Slot) : Type 0 where
+  pub piece : broken isVersionPiece s ≡ false
+  pub version : broken isVersion s ≡ false
+  pub reads : readVersion s ≡ v
+
+-- the versions that an entry lists are numbers that the grammar takes
+abbrev pub soundVersions : List ℕ → Bool
+soundVersions vs = all (within 0 largestVersion) vs
+
+member-all : (f : ℕ → Bool) (n : ℕ) (l : List ℕ) → all f l ≡ true → has n l ≡ true → f n ≡ true
+member-all f n [] a h = absurd (false≢true h)
+member-all f n (c ∷ l) a h = go (eqb c n) refl h (member-all f n l (both (f c) (all f l) a .1))
+  where
+    go : (b : Bool) → eqb c n ≡ b → (b || has n l) ≡ true → (has n l ≡ true → f n ≡ true) → f n ≡ true
+    go true q h k = ap f (sym (eqb-true c n q)) ∙ both (f c) (all f l) a .0
+    go false q h k = k h
+
+pub version-forth : (r : Profile) (v : Version) → soundVersions (r .versions) ≡ true → versionAllowed r v ≡ true → VersionWritten v (writeVersion v)
+unfolding isVersion
+version-forth r Absent k e = record { piece = refl; version = refl; reads = refl }
+version-forth r (Number n) k e =
+    let q = limited-forth 0 largestVersion n (member-all (within 0 largestVersion) n (r .versions) k e) in
+    record { piece = refl; version = rw q; reads = rw q }

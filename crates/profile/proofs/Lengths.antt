@@ -1,0 +1,253 @@
+-- The length of the string that fields are written to, the most that an entry allows, and the least of a hash string.
+-- Assumes nothing.
+use Prim.Native.Nat.{ℕ, suc, _+_, _/_, _≤_, _<_, max}
+use mathlib.Core.Bool.{Bool, true, false, not, cond, _&&_, _||_, true≢false, false≢true}
+use mathlib.Core.List.{List, [], _∷_, _++_, map}
+use mathlib.Core.Option.{none, some}
+use mathlib.Core.Path.{_≡_, refl, ap}
+use native.Mathlib.Omega.{arith}
+use lib.Dec.{leb, eqb}
+use lib.ListN.{length, length-append}
+use borrow.Author.Tests.{leb-true, eqb-true}
+use Rattle.grammar.specs.Text.{text, has, empty, join, listOf}
+use Rattle.grammar.specs.Units.{charsOf}
+use Rattle.grammar.specs.Decimal.{digitsWithin, digits}
+use Rattle.grammar.specs.Limits.{longestString}
+use Rattle.grammar.specs.Place.{refused, putAfter}
+use Rattle.grammar.specs.Pieces.{Slot}
+use Rattle.grammar.specs.Items.{Item, itemText, paramsText}
+use Rattle.grammar.proofs.Tests.{both, from-within}
+use Rattle.grammar.proofs.DecimalLaws.{by-tens, length-small, length-step, length-pos}
+use Rattle.grammar.proofs.B64Laws.{length-encode}
+use Rattle.grammar.proofs.Reading.{whole-long}
+use Rattle.grammar.proofs.Longest.{total, join-length}
+use Rattle.profile.specs.declared.limits.NumberRule.{NumberRule}
+use Rattle.profile.specs.declared.limits.NumberRule.the-variants.{Needed, Omitted, Fixed}
+use Rattle.profile.specs.declared.limits.BytesRule.{BytesRule}
+use Rattle.profile.specs.declared.limits.BytesRule.the-variants.{Sized, Barred}
+use Rattle.profile.specs.Limits.{Profile, inRange, versionAllowed, profileOf, editionTwo}
+use Rattle.profile.specs.Fields.{FieldSet, writeNumber, writeBytes, writeVersion}
+use Rattle.profile.specs.Reader.{names, answer}
+use Rattle.profile.specs.Writer.{bytesAllowed, Permitted, item, itemList, fieldPieces, formatted}
+use Rattle.profile.specs.Entries.{reading, refusedReading, decoded}
+use Rattle.profile.specs.Claims.{room}
+use Rattle.profile.specs.declared.fields.ByteString.{ByteString}
+use Rattle.profile.specs.declared.fields.Version.{Version}
+use Rattle.profile.specs.declared.fields.Version.the-variants.{Absent, Number}
+use Rattle.profile.proofs.Table.{every, at-id}
+
+-- ---- the length, by the texts that are there
+
+-- the bytes of a text that may not be there, with so many before it
+abbrev cost : ℕ → Slot → ℕ
+cost before none = 0
+cost before (some t) = before + length t
+
+slot-total : (s : Slot) (l : List (List ℕ)) → total (listOf s ++ l) ≡ cost 1 s + total l
+unfolding total
+slot-total none l = omega arith
+slot-total (some t) l = omega arith
+
+-- an item, with its comma or `$`, its name and its equals sign
+item-total : (n : List ℕ) (s : Slot) (is : List Item) → total (map itemText (item n s ++ is)) ≡ cost (2 + length n) s + total (map itemText is)
+unfolding total
+item-total n none is = omega arith
+item-total n (some t) is = omega (arith, length-append n (61 ∷ t))
+
+params-total : (is : List Item) → cost 1 (paramsText is) ≡ total (map itemText is)
+unfolding total
+params-total [] = refl
+params-total (i ∷ is) = omega (arith, join-length 44 (itemText i) (map itemText is))
+
+whole : (name : List ℕ) (v m t p keyid ad salt output : Slot)
+    → suc (length (join 36 name (listOf v ++ (listOf (paramsText (itemList names (m ∷ t ∷ p ∷ keyid ∷ ad ∷ []))) ++ (listOf salt ++ (listOf output ++ []))))))
+    ≡ 1 + length name + cost 1 v + cost 3 m + cost 3 t + cost 3 p + cost 7 keyid + cost 6 ad + cost 1 salt + cost 1 output
+unfolding total
+whole name v m t p keyid ad salt output =
+    let i₅ = item (text "data") ad ++ [] in
+    let i₄ = item (text "keyid") keyid ++ i₅ in
+    let i₃ = item (text "p") p ++ i₄ in
+    let i₂ = item (text "t") t ++ i₃ in
+    let i₁ = item (text "m") m ++ i₂ in
+    let l₃ = listOf output ++ [] in
+    let l₂ = listOf salt ++ l₃ in
+    let l₁ = listOf (paramsText i₁) ++ l₂ in
+    let e₀ = join-length 36 name (listOf v ++ l₁) in
+    let e₁ = slot-total v l₁ in
+    let e₂ = slot-total (paramsText i₁) l₂ in
+    let e₃ = slot-total salt l₃ in
+    let e₄ = slot-total output [] in
+    let e₅ = params-total i₁ in
+    let e₆ = item-total (text "m") m i₂ in
+    let e₇ = item-total (text "t") t i₃ in
+    let e₈ = item-total (text "p") p i₄ in
+    let e₉ = item-total (text "keyid") keyid i₅ in
+    let e₁₀ = item-total (text "data") ad [] in
+    omega arith
+
+-- the entry of the fields' id
+abbrev pub here : List Profile → FieldSet → Profile
+here e f = profileOf e (f .numbers .id)
+
+abbrev size : Profile → FieldSet → ℕ
+size r f =
+    1 + length (r .name) + cost 1 (writeVersion (f .numbers .version))
+    + cost 3 (writeNumber (r .m) (f .numbers .m)) + cost 3 (writeNumber (r .t) (f .numbers .t)) + cost 3 (writeNumber (r .p) (f .numbers .p))
+    + cost 7 (writeBytes (f .keyid)) + cost 6 (writeBytes (f .ad))
+    + cost 1 (writeBytes (f .salt)) + cost 1 (writeBytes (f .output))
+
+formatted-length : (e : List Profile) (f : FieldSet) → length (formatted e f) ≡ size (here e f) f
+unfolding formatted fieldPieces
+formatted-length e f =
+    let r = here e f in
+    whole (r .name) (writeVersion (f .numbers .version)) (writeNumber (r .m) (f .numbers .m)) (writeNumber (r .t) (f .numbers .t)) (writeNumber (r .p) (f .numbers .p))
+    (writeBytes (f .keyid)) (writeBytes (f .ad)) (writeBytes (f .salt)) (writeBytes (f .output))
+
+-- ---- the bounds of each text, by its rule
+
+-- a larger number has no fewer digits
+digits-longer : (n high : ℕ) → n ≤ high → length (digits n) ≤ length (digits high)
+digits-longer =
+    by-tens (λ n. (high : ℕ) → n ≤ high → length (digits n) ≤ length (digits high))
+    (λ n h high l. omega (arith, length-small n h, length-pos high))
+    (λ n h longer high l. omega (arith, length-step n h, length-step high (omega arith), longer (high / 10) (omega arith)))
+
+abbrev mostNumber : ℕ → NumberRule → ℕ
+mostNumber before (Needed low high) = before + length (digits high)
+mostNumber before (Omitted low high given) = before + length (digits high)
+mostNumber before (Fixed given) = 0
+
+abbrev leastNumber : ℕ → NumberRule → ℕ
+leastNumber before (Needed low high) = before + length (digits low)
+leastNumber before (Omitted low high given) = 0
+leastNumber before (Fixed given) = 0
+
+number-cost : (before : ℕ) (r : NumberRule) (n : ℕ) → inRange r n ≡ true
+    → (cost before (writeNumber r n) ≤ mostNumber before r) × (leastNumber before r ≤ cost before (writeNumber r n))
+number-cost before (Needed low high) n e =
+    let w = from-within low high n e in
+    (omega (arith, digits-longer n high (w .1)), omega (arith, digits-longer low n (w .0)))
+number-cost before (Omitted low high given) n e = (go (eqb n given), omega arith)
+  where
+    go : (b : Bool) → cost before (cond b none (some (digits n))) ≤ before + length (digits high)
+    go true = omega arith
+    go false = omega (arith, digits-longer n high (from-within low high n e .1))
+number-cost before (Fixed given) n e = (omega arith, omega arith)
+
+abbrev mostBytes : ℕ → BytesRule → ℕ
+mostBytes before (Sized low high) = before + charsOf (high .0)
+mostBytes before Barred = 0
+
+abbrev leastBytes : ℕ → BytesRule → ℕ
+leastBytes before (Sized low high) = before + charsOf (low .0)
+leastBytes before Barred = 0
+
+-- the least is of one that is there
+bytes-cost : (before : ℕ) (r : BytesRule) (bs : List ℕ) → bytesAllowed r bs ≡ true
+    → (cost before (writeBytes bs) ≤ mostBytes before r) × (empty bs ≡ false → leastBytes before r ≤ cost before (writeBytes bs))
+bytes-cost before r [] e = (omega arith, λ h. absurd (true≢false h))
+bytes-cost before (Sized low high) (b ∷ bs) e =
+    let w = from-within (low .0) (high .0) (length (b ∷ bs)) e in
+    let l = length-encode (b ∷ bs) in
+    (omega arith, λ h. omega arith)
+bytes-cost before Barred (b ∷ bs) e = absurd (false≢true e)
+
+abbrev mostVersion : List ℕ → ℕ
+mostVersion [] = 0
+mostVersion (v ∷ vs) = max (3 + length (digits v)) (mostVersion vs)
+
+listed-most : (vs : List ℕ) (n : ℕ) → has n vs ≡ true → 3 + length (digits n) ≤ mostVersion vs
+listed-most [] n e = absurd (false≢true e)
+listed-most (v ∷ vs) n e = go (eqb v n) refl e (listed-most vs n)
+  where
+    go : (b : Bool) → eqb v n ≡ b → (b || has n vs) ≡ true → (has n vs ≡ true → 3 + length (digits n) ≤ mostVersion vs)
+        → 3 + length (digits n) ≤ max (3 + length (digits v)) (mostVersion vs)
+    go true q e h = let k : length (digits v) ≡ length (digits n) = ap (λ (i : ℕ). length (digits i)) (eqb-true v n q) in omega arith
+    go false q e h = let k = h e in omega arith
+
+version-most : (r : Profile) (v : Version) → versionAllowed r v ≡ true → cost 1 (writeVersion v) ≤ mostVersion (r .versions)
+version-most r Absent e = omega arith
+version-most r (Number n) e = let h = listed-most (r .versions) n e in omega arith
+
+-- ---- the bounds of a string, by its entry
+
+unfoldable pub longest : Profile → ℕ
+longest r =
+    1 + length (r .name) + mostVersion (r .versions)
+    + mostNumber 3 (r .m) + mostNumber 3 (r .t) + mostNumber 3 (r .p)
+    + mostBytes 7 (r .keyid) + mostBytes 6 (r .ad)
+    + mostBytes 1 (r .salt) + mostBytes 1 (r .output)
+
+-- of a hash string
+unfoldable pub shortest : Profile → ℕ
+shortest r =
+    1 + length (r .name)
+    + leastNumber 3 (r .m) + leastNumber 3 (r .t) + leastNumber 3 (r .p)
+    + leastBytes 1 (r .salt) + leastBytes 1 (r .output)
+
+-- an output stands after a salt
+salted : (salt output : List ℕ) → (empty salt && not (empty output)) ≡ false → empty output ≡ false → empty salt ≡ false
+salted [] output e h = absurd (true≢false (rw h at e))
+salted (b ∷ bs) output e h = refl
+
+pub bounds : (e : List Profile) (f : FieldSet) → Permitted e f
+    → (length (formatted e f) ≤ longest (here e f)) × (empty (f .output) ≡ false → shortest (here e f) ≤ length (formatted e f))
+unfolding longest shortest
+bounds e f h =
+    let n = f .numbers in
+    let r = here e f in
+    let l = formatted-length e f in
+    let v = version-most r (n .version) (h .version) in
+    let m = number-cost 3 (r .m) (n .m) (h .m) in
+    let t = number-cost 3 (r .t) (n .t) (h .t) in
+    let p = number-cost 3 (r .p) (n .p) (h .p) in
+    let keyid = bytes-cost 7 (r .keyid) (f .keyid) (h .keyid) in
+    let ad = bytes-cost 6 (r .ad) (f .ad) (h .ad) in
+    let salt = bytes-cost 1 (r .salt) (f .salt) (h .salt) in
+    let output = bytes-cost 1 (r .output) (f .output) (h .output) in
+    (omega arith, λ o. omega (arith, salt .1 (salted (f .salt) (f .output) (h .order) o), output .1 o))
+
+-- ---- numbers for the bounds, where a test of the edition's entries shows them
+
+-- the entry at k keeps to them
+abbrev pub keepsTo : (ℕ → ℕ) → (ℕ → ℕ) → ℕ → Profile → Bool
+keepsTo most least k r = leb (longest r) (most k) && leb (least k) (shortest r)
+
+pub bounds-at : (e : List Profile) (most least : ℕ → ℕ) → every (keepsTo most least) 1 e ≡ true → (f : FieldSet) → Permitted e f
+    → (length (formatted e f) ≤ most (f .numbers .id)) × (empty (f .output) ≡ false → least (f .numbers .id) ≤ length (formatted e f))
+bounds-at e most least kept f h =
+    let k = f .numbers .id in
+    let r = here e f in
+    let q = both (leb (longest r) (most k)) (leb (least k) (shortest r)) (at-id (keepsTo most least) e kept k (h .id)) in
+    let b = bounds e f h in
+    (omega (arith, leb-true (longest r) (most k) (q .0)), λ o. omega (arith, leb-true (least k) (shortest r) (q .1), b .1 o))
+
+-- edition two: ids 1 to 3 are Argon2's
+abbrev pub mostTwo : ℕ → ℕ
+mostTwo k = cond (leb k 3) room 171
+
+abbrev pub leastTwo : ℕ → ℕ
+leastTwo k = cond (leb k 3) 49 33
+
+kept-two : every (keepsTo mostTwo leastTwo) 1 editionTwo ≡ true
+unfolding editionTwo longest shortest digits digitsWithin
+kept-two = refl
+
+pub bounds-two : (f : FieldSet) → Permitted editionTwo f
+    → (length (formatted editionTwo f) ≤ mostTwo (f .numbers .id)) × (empty (f .output) ≡ false → leastTwo (f .numbers .id) ≤ length (formatted editionTwo f))
+bounds-two = bounds-at editionTwo mostTwo leastTwo kept-two
+
+-- ---- more than 2,896 bytes: every reader answers 1
+
+module _ (e : List Profile) (s : List ℕ) (h : longestString < length s) where
+  pub long : answer e s ≡ 1
+  unfolding answer
+  long = rw (whole-long s h)
+
+  pub long-reading : reading e s ≡ refusedReading 1
+  unfolding reading
+  long-reading = rw long
+
+  pub long-decoded : (c : ByteString) (buffer : List ℕ) (at : ℕ) → decoded e c s buffer at ≡ refused 1 buffer
+  unfolding decoded putAfter
+  long-decoded c buffer at = rw long

@@ -1,0 +1,10 @@
+pub mod Codecs
+pub mod Slots
+pub mod Table
+pub mod Written
+pub mod Accepted
+pub mod Demand3
+pub mod Shorts
+pub mod Lengths
+pub mod Strings
+pub mod Claims

@@ -1,0 +1,131 @@
+-- The ids of an edition: the number of an id text and the entry at a number. `sound` is the test that an edition has to pass.
+-- Assumes nothing.
+use Prim.Native.Nat.{ℕ, zero, suc, _+_, _*_}
+use mathlib.Core.Bool.{Bool, true, false, not, cond, _&&_, _||_, true≢false, false≢true}
+use mathlib.Core.List.{List, [], _∷_}
+use mathlib.Core.Path.{_≡_, refl, sym, _∙_, subst}
+use native.Mathlib.Omega.{arith}
+use native.Mathlib.Nat.{add-zero, add-suc, suc-add}
+use lib.Dec.{leb, eqb, eqb·suc-zero}
+use lib.ListN.{getD}
+use borrow.Author.Tests.{eqb-true}
+use Rattle.grammar.specs.Text.{same}
+use Rattle.grammar.specs.Bytes.{isNameByte, isText}
+use Rattle.grammar.specs.Rules.{isName}
+use Rattle.grammar.proofs.Tests.{both}
+use Rattle.grammar.proofs.Lists.{same-eq}
+use Rattle.profile.specs.Limits.{Profile, inRange, versionAllowed, next, idOf, nobody, profileOf, editionTwo}
+use Rattle.profile.proofs.Codecs.{soundNumber, soundBytes, soundVersions}
+
+-- ---- a test on each entry
+
+-- f passes at each entry and its number, counted from k
+abbrev pub every : (ℕ → Profile → Bool) → ℕ → List Profile → Bool
+every f k [] = true
+every f k (r ∷ rs) = f k r && every f (suc k) rs
+
+from : (f : ℕ → Profile → Bool) (rs : List Profile) (j : ℕ) → every f j rs ≡ true → (k : ℕ) → getD rs k nobody .known ≡ true → f (j + k) (getD rs k nobody) ≡ true
+from f [] j t k h = absurd (false≢true h)
+from f (r ∷ rs) j t zero h = subst (λ (i : ℕ). f i r ≡ true) (sym (add-zero j)) (both (f j r) (every f (suc j) rs) t .0)
+from f (r ∷ rs) j t (suc k) h =
+    subst (λ (i : ℕ). f i (getD rs k nobody) ≡ true) (suc-add j k ∙ sym (add-suc j k)) (from f rs (suc j) (both (f j r) (every f (suc j) rs) t .1) k h)
+
+pub at-id : (f : ℕ → Profile → Bool) (e : List Profile) → every f 1 e ≡ true → (k : ℕ) → profileOf e k .known ≡ true → f k (profileOf e k) ≡ true
+at-id f e t zero h = absurd (false≢true h)
+at-id f e t (suc k) h = subst (λ (i : ℕ). f i (getD e k nobody) ≡ true) (omega arith) (from f e 1 t k h)
+
+pub implied : (a b : Bool) → (not a || b) ≡ true → a ≡ true → b ≡ true
+implied true b h e = h
+implied false b h e = absurd (false≢true e)
+
+-- ---- the test of an edition
+
+-- the short writer's numbers are permitted
+abbrev pub usualNumbers : Profile → Bool
+usualNumbers r =
+    let u = r .usual in
+    inRange (r .m) (u .m) && inRange (r .t) (u .t) && inRange (r .p) (u .p) && leb (8 * u .p) (u .m)
+
+-- the entry at k has an id of its own, and limits within what the grammar takes
+abbrev soundAt : List Profile → ℕ → Profile → Bool
+soundAt e k r =
+    not (r .known) || (eqb (idOf e (r .name)) k
+    && (isName (r .name)
+    && (soundVersions (r .versions)
+    && (soundNumber (r .m)
+    && (soundNumber (r .t)
+    && (soundNumber (r .p)
+    && (soundBytes (r .keyid) && (soundBytes (r .ad) && (soundBytes (r .salt) && (soundBytes (r .output) && (versionAllowed r (r .usual .version) && usualNumbers r)))))))))))
+
+unfoldable pub sound : List Profile → Bool
+sound e = every (soundAt e) 1 e
+
+-- what the test says of the entry r at k
+pub record Entry (e : List Profile) (k : ℕ) (r : Profile) : Type 0 where
+  pub found : idOf e (r .name) ≡ k
+  pub named : isName (r .name) ≡ true
+  pub versions : soundVersions (r .versions) ≡ true
+  pub m : soundNumber (r .m) ≡ true
+  pub t : soundNumber (r .t) ≡ true
+  pub p : soundNumber (r .p) ≡ true
+  pub keyid : soundBytes (r .keyid) ≡ true
+  pub ad : soundBytes (r .ad) ≡ true
+  pub salt : soundBytes (r .salt) ≡ true
+  pub output : soundBytes (r .output) ≡ true
+  pub usual-version : versionAllowed r (r .usual .version) ≡ true
+  pub usual-numbers : usualNumbers r ≡ true
+
+entry : (e : List Profile) (k : ℕ) (r : Profile) → r .known ≡ true → soundAt e k r ≡ true → Entry e k r
+entry e k r known h₀ =
+    let h₁ = both _ _ (implied _ _ h₀ known) in
+    let h₂ = both _ _ (h₁ .1) in
+    let h₃ = both _ _ (h₂ .1) in
+    let h₄ = both _ _ (h₃ .1) in
+    let h₅ = both _ _ (h₄ .1) in
+    let h₆ = both _ _ (h₅ .1) in
+    let h₇ = both _ _ (h₆ .1) in
+    let h₈ = both _ _ (h₇ .1) in
+    let h₉ = both _ _ (h₈ .1) in
+    let h₁₀ = both _ _ (h₉ .1) in
+    let h₁₁ = both (versionAllowed r (r .usual .version)) _ (h₁₀ .1) in
+    record {
+      found = eqb-true (idOf e (r .name)) k (h₁ .0);
+      named = h₂ .0;
+      versions = h₃ .0;
+      m = h₄ .0;
+      t = h₅ .0;
+      p = h₆ .0;
+      keyid = h₇ .0;
+      ad = h₈ .0;
+      salt = h₉ .0;
+      output = h₁₀ .0;
+      usual-version = h₁₁ .0;
+      usual-numbers = h₁₁ .1;
+    }
+
+pub entry-at : (e : List Profile) → sound e ≡ true → (k : ℕ) → profileOf e k .known ≡ true → Entry e k (profileOf e k)
+unfolding sound
+entry-at e s k h = entry e k (profileOf e k) h (at-id (soundAt e) e s k h)
+
+-- ---- ids and their numbers
+
+-- no id has the number 0
+pub known-id : (e : List Profile) (k : ℕ) → profileOf e k .known ≡ true → eqb k 0 ≡ false
+known-id e zero h = absurd (false≢true h)
+known-id e (suc k) h = eqb·suc-zero k
+
+-- an id text that is found is the name of its entry
+pub name-of : (e : List Profile) (s : List ℕ) → eqb (idOf e s) 0 ≡ false → (profileOf e (idOf e s) .name ≡ s) × (profileOf e (idOf e s) .known ≡ true)
+name-of [] s h = absurd (true≢false h)
+name-of (r ∷ rs) s h = go (r .known && same s (r .name)) refl (idOf rs s) h (name-of rs s)
+  where
+    go : (b : Bool) → (r .known && same s (r .name)) ≡ b → (k : ℕ) → eqb (cond b 1 (next k)) 0 ≡ false
+        → (eqb k 0 ≡ false → (profileOf rs k .name ≡ s) × (profileOf rs k .known ≡ true))
+        → (profileOf (r ∷ rs) (cond b 1 (next k)) .name ≡ s) × (profileOf (r ∷ rs) (cond b 1 (next k)) .known ≡ true)
+    go true q k h f = let p = both (r .known) (same s (r .name)) q in (sym (same-eq s (r .name) (p .1)), p .0)
+    go false q zero h f = absurd (true≢false h)
+    go false q (suc k) h f = f (eqb·suc-zero k)
+
+pub edition-two-sound : sound editionTwo ≡ true
+unfolding sound editionTwo isNameByte isText
+edition-two-sound = refl

@@ -1,0 +1,55 @@
+-- What is proved of the rules and of the entries' outcomes: proofs/Claims.antt has a value of each record.
+-- Assumes nothing.
+use Prim.Native.Nat.{ℕ, _+_, _*_, _≤_}
+use mathlib.Core.Path.{_≡_}
+use mathlib.Core.Bool.{false}
+use mathlib.Core.List.{List}
+use mathlib.Core.Logic.{_↔_, _≢_}
+use lib.ListN.{length}
+use Rattle.grammar.specs.Text.{empty}
+use Rattle.grammar.specs.Place.{outcome, over}
+use Rattle.profile.specs.Limits.{Profile, editionTwo}
+use Rattle.profile.specs.Fields.{FieldSet, chosen, writeBytes}
+use Rattle.profile.specs.Reader.{answer, fieldsOf}
+use Rattle.profile.specs.Writer.{OfBytes, Permitted, formatted}
+use Rattle.profile.specs.Entries.{reading, decoded, writing, kindOf}
+use Rattle.profile.specs.declared.fields.ByteString.{ByteString}
+
+-- demand 3, over the rules of an edition
+pub record Demand3 (e : List Profile) : Type 0 where
+  -- two different accepted strings never carry the same fields
+  pub same-string : (s u : List ℕ) → answer e s ≡ 0 → answer e u ≡ 0 → fieldsOf e s ≡ fieldsOf e u → s ≡ u
+  -- two different permitted sets of fields are never written to the same string
+  pub same-fields : (f g : FieldSet) → Permitted e f → Permitted e g → formatted e f ≡ formatted e g → f ≡ g
+  -- a string is refused exactly when no permitted set of fields is written to it
+  pub refused-exactly : (s : List ℕ) → (answer e s ≢ 0) ↔ ((f : FieldSet) → Permitted e f → formatted e f ≢ s)
+  -- the fields of an accepted string are permitted, and are written back to exactly that string
+  pub written-back : (s : List ℕ) → answer e s ≡ 0 → Permitted e (fieldsOf e s) × (formatted e (fieldsOf e s) ≡ s)
+
+-- the room that every permitted string fits
+abbrev pub room : ℕ
+room = 265
+
+-- demand 3, of the outcomes that the entries' contracts name, given that room from the writer's place
+pub record EntriesAgree (e : List Profile) : Type 0 where
+  -- the writer answers 0 exactly for permitted fields, and what it wrote is their string
+  pub writes : (f : FieldSet) → Permitted e f → (buffer : List ℕ) (at : ℕ) → at + room ≤ length buffer
+      → writing e f buffer at ≡ outcome 0 (length (formatted e f)) (over buffer at (formatted e f))
+  pub writes-only : (f : FieldSet) → OfBytes f → (buffer : List ℕ) (at : ℕ) → writing e f buffer at .number ≡ 0 → Permitted e f
+  -- the reader and the byte-string entry give those nine fields back
+  pub reads : (f : FieldSet) → Permitted e f
+      → reading e (formatted e f) ≡ record { number = 0; kind = kindOf (writeBytes (f .salt)) (writeBytes (f .output)); fields = f .numbers }
+  pub decodes : (f : FieldSet) → Permitted e f → (c : ByteString) (buffer : List ℕ) (at : ℕ) → at + length (chosen c f) ≤ length buffer
+      → decoded e c (formatted e f) buffer at ≡ outcome 0 (length (chosen c f)) (over buffer at (chosen c f))
+
+-- the customer's own sentence: every accepted Argon2 string has at least one lane, and eight kilobytes for each
+pub record Lanes : Type 0 where
+  pub lane : (s : List ℕ) → answer editionTwo s ≡ 0 → fieldsOf editionTwo s .numbers .id ≤ 3
+      → (1 ≤ fieldsOf editionTwo s .numbers .p) × (8 * fieldsOf editionTwo s .numbers .p ≤ fieldsOf editionTwo s .numbers .m)
+
+-- the longest strings, and the shortest hash strings; ids 1 to 3 are Argon2's
+pub record Lengths : Type 0 where
+  pub any-most : (f : FieldSet) → Permitted editionTwo f → length (formatted editionTwo f) ≤ room
+  pub argon2-least : (f : FieldSet) → Permitted editionTwo f → f .numbers .id ≤ 3 → empty (f .output) ≡ false → 49 ≤ length (formatted editionTwo f)
+  pub pbkdf2-most : (f : FieldSet) → Permitted editionTwo f → 4 ≤ f .numbers .id → length (formatted editionTwo f) ≤ 171
+  pub pbkdf2-least : (f : FieldSet) → Permitted editionTwo f → 4 ≤ f .numbers .id → empty (f .output) ≡ false → 33 ≤ length (formatted editionTwo f)

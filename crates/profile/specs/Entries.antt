@@ -1,0 +1,65 @@
+-- What the public entries give, for every input: the outcomes that their contracts name.
+-- Assumes nothing.
+use Prim.Native.Nat.{ℕ}
+use mathlib.Core.Bool.{cond}
+use mathlib.Core.List.{List}
+use mathlib.Core.Option.{none, some}
+use lib.Dec.{eqb}
+use Rattle.grammar.specs.Place.{Outcome, putAfter}
+use Rattle.grammar.specs.Pieces.{Slot, pieces}
+use Rattle.profile.specs.Limits.{Profile, profileOf}
+use Rattle.profile.specs.Fields.{FieldSet, chosen}
+use Rattle.profile.specs.Reader.{answer, fieldsOf}
+use Rattle.profile.specs.Writer.{refusal, formatted, shortFields, shortRefusal}
+use Rattle.profile.specs.declared.fields.Version.{Version}
+use Rattle.profile.specs.declared.fields.Version.the-variants.{Absent, Number}
+use Rattle.profile.specs.declared.fields.Fields.{Fields}
+use Rattle.profile.specs.declared.fields.ByteString.{ByteString}
+use Rattle.profile.specs.declared.fields.Reading.{Reading}
+use Rattle.profile.specs.declared.fields.Meaning.{Meaning}
+
+-- ---- the profile reader
+
+abbrev pub noFields : Fields
+noFields = record { id = 0; version = Absent; m = 0; t = 0; p = 0 }
+
+-- all-zero, version absent
+abbrev pub refusedReading : ℕ → Reading
+refusedReading n = record { number = n; kind = 0; fields = noFields }
+
+-- 1 a parameter string, 2 a salt string, 3 a hash string
+abbrev pub kindOf : Slot → Slot → ℕ
+kindOf none none = 1
+kindOf none (some o) = 3
+kindOf (some s) none = 2
+kindOf (some s) (some o) = 3
+
+unfoldable pub reading : List Profile → List ℕ → Reading
+reading e s =
+    cond (eqb (answer e s) 0)
+    (record { number = 0; kind = kindOf (pieces s .salt) (pieces s .output); fields = fieldsOf e s .numbers })
+    (refusedReading (answer e s))
+
+-- ---- which algorithm version is meant
+
+abbrev pub meantVersion : Profile → Version → ℕ
+meantVersion r Absent = r .unwritten
+meantVersion r (Number n) = n
+
+abbrev pub meaningOf : List Profile → Reading → Meaning
+meaningOf e r = record { number = r .number; version = meantVersion (profileOf e (r .fields .id)) (r .fields .version) }
+
+-- of a refused string the fields are all-zero, and so is the version
+unfoldable pub meaning : List Profile → List ℕ → Meaning
+meaning e s = meaningOf e (reading e s)
+
+-- ---- the byte-string entry, the writer and the short writer
+
+unfoldable pub decoded : List Profile → ByteString → List ℕ → List ℕ → ℕ → Outcome
+decoded e c s buffer at = putAfter (answer e s) buffer at (chosen c (fieldsOf e s))
+
+unfoldable pub writing : List Profile → FieldSet → List ℕ → ℕ → Outcome
+writing e f buffer at = putAfter (refusal e f) buffer at (formatted e f)
+
+unfoldable pub shortWriting : List Profile → ℕ → List ℕ → List ℕ → List ℕ → ℕ → Outcome
+shortWriting e k salt output buffer at = putAfter (shortRefusal e k salt output) buffer at (formatted e (shortFields e k salt output))

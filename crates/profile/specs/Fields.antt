@@ -1,0 +1,108 @@
+-- The nine fields, and how one number, one byte string and the version are read and written.
+-- Assumes nothing.
+use Prim.Native.Nat.{ℕ}
+use mathlib.Core.Bool.{Bool, true, false, cond, _&&_}
+use mathlib.Core.List.{List, [], _∷_, _++_}
+use mathlib.Core.Option.{none, some}
+use lib.Dec.{eqb}
+use lib.ListN.{length, drop}
+use Rattle.grammar.specs.Text.{text}
+use Rattle.grammar.specs.Decimal.{digits}
+use Rattle.grammar.specs.Numerals.{limitedReading, limitedNumber, limitedValue}
+use Rattle.grammar.specs.Limits.{largestVersion}
+use Rattle.grammar.specs.B64.{canonical, decode, encode}
+use Rattle.grammar.specs.Pieces.{Slot}
+use Rattle.grammar.specs.declared.decimal.Limited.{Limited}
+use Rattle.profile.specs.Limits.{lowest, highest, isSize}
+use Rattle.profile.specs.declared.limits.NumberRule.{NumberRule}
+use Rattle.profile.specs.declared.limits.NumberRule.the-variants.{Needed, Omitted, Fixed}
+use Rattle.profile.specs.declared.limits.BytesRule.{BytesRule}
+use Rattle.profile.specs.declared.limits.BytesRule.the-variants.{Sized, Barred}
+use Rattle.profile.specs.declared.fields.Version.{Version}
+use Rattle.profile.specs.declared.fields.Version.the-variants.{Absent, Number}
+use Rattle.profile.specs.declared.fields.Fields.{Fields}
+use Rattle.profile.specs.declared.fields.ByteString.{ByteString}
+use Rattle.profile.specs.declared.fields.ByteString.the-variants.{Keyid, Data, Salt, Output}
+
+-- the number fields, and the four byte strings beside them
+pub record FieldSet : Type 0 where
+  pub numbers : Fields
+  pub keyid : List ℕ
+  pub ad : List ℕ
+  pub salt : List ℕ
+  pub output : List ℕ
+
+abbrev pub chosen : ByteString → FieldSet → List ℕ
+chosen Keyid f = f .keyid
+chosen Data f = f .ad
+chosen Salt f = f .salt
+chosen Output f = f .output
+
+-- ---- one number; the slot is its value's text, where there is one
+
+abbrev pub numberText : NumberRule → List ℕ → Limited
+numberText r t = limitedReading (lowest r) (highest r) t
+
+-- a permitted decimal, in range
+abbrev pub isNumber : NumberRule → List ℕ → Bool
+isNumber r t = eqb (limitedNumber (numberText r t)) 0
+
+-- missing where it is needed, or there where it is no parameter
+abbrev pub misplacedNumber : NumberRule → Slot → Bool
+misplacedNumber (Needed low high) none = true
+misplacedNumber (Needed low high) (some t) = false
+misplacedNumber (Omitted low high given) s = false
+misplacedNumber (Fixed given) none = false
+misplacedNumber (Fixed given) (some t) = true
+
+abbrev pub readNumber : NumberRule → Slot → ℕ
+readNumber (Needed low high) none = 0
+readNumber (Omitted low high given) none = given
+readNumber (Fixed given) none = given
+readNumber (Needed low high) (some t) = limitedValue (limitedReading low high t)
+readNumber (Omitted low high given) (some t) = limitedValue (limitedReading low high t)
+readNumber (Fixed given) (some t) = given
+
+-- written out, though it is what an omitted one means
+abbrev pub writtenOut : NumberRule → Slot → Bool
+writtenOut (Needed low high) s = false
+writtenOut (Omitted low high given) none = false
+writtenOut (Omitted low high given) (some t) = eqb (limitedValue (limitedReading low high t)) given
+writtenOut (Fixed given) s = false
+
+abbrev pub writeNumber : NumberRule → ℕ → Slot
+writeNumber (Needed low high) n = some (digits n)
+writeNumber (Omitted low high given) n = cond (eqb n given) none (some (digits n))
+writeNumber (Fixed given) n = none
+
+-- ---- one byte string
+
+abbrev pub misplacedBytes : BytesRule → Slot → Bool
+misplacedBytes (Sized low high) s = false
+misplacedBytes Barred none = false
+misplacedBytes Barred (some t) = true
+
+-- of a permitted length, in bytes
+abbrev pub isSized : BytesRule → List ℕ → Bool
+isSized r t = isSize r (length (decode t))
+
+abbrev pub isBytes : BytesRule → List ℕ → Bool
+isBytes r t = canonical t && isSized r t
+
+abbrev pub readBytes : Slot → List ℕ
+readBytes none = []
+readBytes (some t) = decode t
+
+abbrev pub writeBytes : List ℕ → Slot
+writeBytes [] = none
+writeBytes (b ∷ bs) = some (encode (b ∷ bs))
+
+-- ---- the version
+
+abbrev pub readVersion : Slot → Version
+readVersion none = Absent
+readVersion (some s) = Number (limitedValue (limitedReading 0 largestVersion (drop 2 s)))
+
+abbrev pub writeVersion : Version → Slot
+writeVersion Absent = none
+writeVersion (Number n) = some (text "v=" ++ digits n)

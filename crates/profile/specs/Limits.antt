@@ -1,0 +1,161 @@
+-- What a profile allows, as a table: one entry for each id, in the order of the ids' numbers. An edition of the rules is such a table.
+-- Assumes nothing.
+use Prim.Native.Nat.{ℕ, zero, suc}
+use mathlib.Core.Bool.{Bool, true, false, cond, _&&_}
+use mathlib.Core.List.{List, [], _∷_}
+use lib.ListN.{getD}
+use Rattle.grammar.specs.Text.{text, within, same, has}
+use Rattle.profile.specs.declared.limits.NumberRule.{NumberRule}
+use Rattle.profile.specs.declared.limits.NumberRule.the-variants.{Needed, Omitted, Fixed}
+use Rattle.profile.specs.declared.limits.BytesRule.{BytesRule}
+use Rattle.profile.specs.declared.limits.BytesRule.the-variants.{Sized, Barred}
+use Rattle.profile.specs.declared.limits.Limits.{Limits}
+use Rattle.profile.specs.declared.fields.Version.{Version}
+use Rattle.profile.specs.declared.fields.Version.the-variants.{Absent, Number}
+
+-- the numbers that the short writer uses
+pub record Usual : Type 0 where
+  pub version : Version
+  pub m : ℕ
+  pub t : ℕ
+  pub p : ℕ
+
+-- `ad` is the paper's `data`, a reserved word here. Ids keep their numbers in every edition, so an entry says whether its id is known.
+-- `unwritten` is the algorithm version that a string without a version means
+pub record Profile : Type 0 where
+  pub known : Bool
+  pub name : List ℕ
+  pub unversioned : Bool
+  pub versions : List ℕ
+  pub unwritten : ℕ
+  pub m : NumberRule
+  pub t : NumberRule
+  pub p : NumberRule
+  pub keyid : BytesRule
+  pub ad : BytesRule
+  pub salt : BytesRule
+  pub output : BytesRule
+  pub usual : Usual
+
+-- the limits of an entry, as the code has them
+abbrev pub limitsOf : Profile → Limits
+limitsOf r =
+    record { m = r .m; t = r .t; p = r .p; keyid = r .keyid; ad = r .ad; salt = r .salt; output = r .output }
+
+-- ---- what an entry says
+
+abbrev pub lowest : NumberRule → ℕ
+lowest (Needed low high) = low
+lowest (Omitted low high given) = low
+lowest (Fixed given) = given
+
+abbrev pub highest : NumberRule → ℕ
+highest (Needed low high) = high
+highest (Omitted low high given) = high
+highest (Fixed given) = given
+
+abbrev pub inRange : NumberRule → ℕ → Bool
+inRange r n = within (lowest r) (highest r) n
+
+abbrev pub isSize : BytesRule → ℕ → Bool
+isSize (Sized low high) n = within (low .0) (high .0) n
+isSize Barred n = false
+
+-- an absent version is allowed where the entry says so
+abbrev pub versionAllowed : Profile → Version → Bool
+versionAllowed r Absent = r .unversioned
+versionAllowed r (Number n) = has n (r .versions)
+
+-- ---- ids and their numbers
+
+-- one more, but 0 stays 0
+abbrev pub next : ℕ → ℕ
+next zero = zero
+next (suc n) = suc (suc n)
+
+-- the number of an id text, counted from 1; 0 for an unknown one
+abbrev pub idOf : List Profile → List ℕ → ℕ
+idOf [] s = 0
+idOf (r ∷ rs) s = cond (r .known && same s (r .name)) 1 (next (idOf rs s))
+
+-- the entry of a number that is no id's
+abbrev pub nobody : Profile
+nobody =
+    record {
+      known = false;
+      name = [];
+      unversioned = true;
+      versions = [];
+      unwritten = 0;
+      m = Fixed 0;
+      t = Fixed 0;
+      p = Fixed 0;
+      keyid = Barred;
+      ad = Barred;
+      salt = Barred;
+      output = Barred;
+      usual = record { version = Absent; m = 0; t = 0; p = 0 };
+    }
+
+abbrev pub profileOf : List Profile → ℕ → Profile
+profileOf rs k = getD (nobody ∷ rs) k nobody
+
+-- ---- the table
+
+-- a size, in bytes
+abbrev pub sized : ℕ → ℕ → BytesRule
+sized low high = Sized (record { 0 = low }) (record { 0 = high })
+
+abbrev pub largest32 : ℕ
+largest32 = 4294967295
+
+-- the version that an Argon2 string without one means
+abbrev pub absentMeans : ℕ
+absentMeans = 19
+
+-- m by itself is at least 1; that it is at least 8p is the row's
+abbrev pub argon2 : List ℕ → Profile
+argon2 name =
+    record {
+      known = true;
+      name = name;
+      unversioned = true;
+      versions = 16 ∷ 19 ∷ [];
+      unwritten = absentMeans;
+      m = Needed 1 largest32;
+      t = Needed 1 largest32;
+      p = Needed 1 255;
+      keyid = sized 0 8;
+      ad = sized 0 32;
+      salt = sized 8 48;
+      output = sized 12 64;
+      usual = record { version = Number 19; m = 65536; t = 2; p = 1 };
+    }
+
+abbrev pub pbkdf2 : List ℕ → Profile
+pbkdf2 name =
+    record {
+      known = true;
+      name = name;
+      unversioned = true;
+      versions = [];
+      unwritten = 0;
+      m = Fixed 0;
+      t = Omitted 100 largest32 20000;
+      p = Fixed 0;
+      keyid = sized 0 8;
+      ad = Barred;
+      salt = sized 4 32;
+      output = sized 12 64;
+      usual = record { version = Absent; m = 0; t = 20000; p = 0 };
+    }
+
+-- edition two: the paper's table
+unfoldable pub editionTwo : List Profile
+editionTwo =
+    argon2 (text "argon2d")
+    ∷ argon2 (text "argon2i")
+    ∷ argon2 (text "argon2id")
+    ∷ pbkdf2 (text "pbkdf2s2")
+    ∷ pbkdf2 (text "pbkdf2s3")
+    ∷ []

@@ -1,0 +1,109 @@
+-- The reader's rows 8 to 15, its number, and the fields that a string carries.
+-- Assumes nothing.
+use Prim.Native.Nat.{ℕ, _*_}
+use mathlib.Core.Bool.{Bool, not, _||_}
+use mathlib.Core.List.{List, [], _∷_, _++_}
+use mathlib.Core.Option.{Option, none, some}
+use lib.Dec.{ltb, eqb}
+use lib.ListN.{getD}
+use Rattle.grammar.specs.Text.{text, same, empty, headIf, tailIf, broken}
+use Rattle.grammar.specs.Pieces.{Slot, Pieces, pieces}
+use Rattle.grammar.specs.Items.{Item, itemsOf}
+use Rattle.grammar.specs.Rules.{Row, row, firstOf, grammarRows}
+use Rattle.profile.specs.Limits.{Profile, versionAllowed, idOf, profileOf}
+use Rattle.profile.specs.Fields.{FieldSet, isNumber, misplacedNumber, readNumber, writtenOut, misplacedBytes, isSized, isBytes, readBytes, readVersion}
+use Rattle.profile.specs.declared.fields.Version.{Version}
+
+-- ---- parameters by name, in order
+
+-- m, t, p, then keyid, then data
+abbrev pub names : List (List ℕ)
+names = text "m" ∷ text "t" ∷ text "p" ∷ text "keyid" ∷ text "data" ∷ []
+
+abbrev pub named : List ℕ → Item → Bool
+named n i = same (i .0) n
+
+abbrev pub itemValue : Option Item → Slot
+itemValue none = none
+itemValue (some i) = some (i .1)
+
+-- the value of each name, as the items have them in order; and the items that are left
+abbrev pub slots : List (List ℕ) → List Item → List Slot
+slots [] is = []
+slots (n ∷ ns) is = itemValue (headIf (named n) is) ∷ slots ns (tailIf (named n) is)
+
+abbrev pub strangers : List (List ℕ) → List Item → List Item
+strangers [] is = is
+strangers (n ∷ ns) is = strangers ns (tailIf (named n) is)
+
+abbrev pub slotAt : List Slot → ℕ → Slot
+slotAt vs k = getD vs k none
+
+-- ---- the rows, of an entry r and the values vs of the names
+
+-- names missing or unknown to the profile
+abbrev pub misplaced : Profile → List Slot → Bool
+misplaced r vs =
+    misplacedNumber (r .m) (slotAt vs 0)
+    || misplacedNumber (r .t) (slotAt vs 1)
+    || misplacedNumber (r .p) (slotAt vs 2)
+    || misplacedBytes (r .keyid) (slotAt vs 3)
+    || misplacedBytes (r .ad) (slotAt vs 4)
+
+abbrev pub badNumbers : Profile → List Slot → Bool
+badNumbers r vs =
+    broken (isNumber (r .m)) (slotAt vs 0)
+    || broken (isNumber (r .t)) (slotAt vs 1)
+    || broken (isNumber (r .p)) (slotAt vs 2)
+    || ltb (readNumber (r .m) (slotAt vs 0)) (8 * readNumber (r .p) (slotAt vs 2))
+
+-- for the id's number k, the version, the values of the names, whether items are left, the salt and the output
+abbrev pub rowsFor : List Profile → ℕ → Version → List Slot → Bool → Slot → Slot → List Row
+rowsFor e k v vs strange salt output =
+    let r = profileOf e k in
+    row 8 (eqb k 0)
+    ∷ row 9 (not (versionAllowed r v))
+    ∷ row 10 (strange || misplaced r vs)
+    ∷ row 11 (badNumbers r vs)
+    ∷ row 12 (broken (isBytes (r .keyid)) (slotAt vs 3) || broken (isBytes (r .ad)) (slotAt vs 4))
+    ∷ row 13 (writtenOut (r .m) (slotAt vs 0) || writtenOut (r .t) (slotAt vs 1) || writtenOut (r .p) (slotAt vs 2))
+    ∷ row 14 (broken (isBytes (r .salt)) salt)
+    ∷ row 15 (broken (isSized (r .output)) output)
+    ∷ []
+
+abbrev pub profileRows : List Profile → Pieces → List Row
+profileRows e p =
+    let is = itemsOf (p .params) in
+    rowsFor e (idOf e (p .id)) (readVersion (p .version)) (slots names is) (not (empty (strangers names is))) (p .salt) (p .output)
+
+-- the reader's number: rows 1 to 7 are the grammar's
+unfoldable pub answer : List Profile → List ℕ → ℕ
+answer e s = firstOf (grammarRows s ++ profileRows e (pieces s))
+
+-- ---- the fields
+
+abbrev pub fieldsFor : List Profile → ℕ → Version → List Slot → Slot → Slot → FieldSet
+fieldsFor e k v vs salt output =
+    let r = profileOf e k in
+    record {
+      numbers =
+          record {
+            id = k;
+            version = v;
+            m = readNumber (r .m) (slotAt vs 0);
+            t = readNumber (r .t) (slotAt vs 1);
+            p = readNumber (r .p) (slotAt vs 2);
+          };
+      keyid = readBytes (slotAt vs 3);
+      ad = readBytes (slotAt vs 4);
+      salt = readBytes salt;
+      output = readBytes output;
+    }
+
+abbrev pub carried : List Profile → Pieces → FieldSet
+carried e p =
+    fieldsFor e (idOf e (p .id)) (readVersion (p .version)) (slots names (itemsOf (p .params))) (p .salt) (p .output)
+
+-- the fields that an accepted string carries: what its pieces say
+unfoldable pub fieldsOf : List Profile → List ℕ → FieldSet
+fieldsOf e s = carried e (pieces s)

@@ -1,0 +1,124 @@
+-- Permitted fields, the writer's rows, and the one string that fields are written to.
+-- Assumes nothing.
+use Prim.Native.Nat.{ℕ, _*_, _≤_}
+use mathlib.Core.Path.{_≡_}
+use mathlib.Core.Bool.{Bool, true, false, not, _&&_, _||_}
+use mathlib.Core.List.{List, [], _∷_, _++_}
+use mathlib.Core.Option.{none, some}
+use lib.Dec.{leb}
+use lib.ListN.{length}
+use Rattle.grammar.specs.Text.{all, empty}
+use Rattle.grammar.specs.Bytes.{isByte}
+use Rattle.grammar.specs.Pieces.{Slot, Pieces, string}
+use Rattle.grammar.specs.Items.{Item, paramsText}
+use Rattle.grammar.specs.Rules.{Row, row, firstOf}
+use Rattle.profile.specs.declared.limits.BytesRule.{BytesRule}
+use Rattle.profile.specs.Limits.{Profile, inRange, isSize, versionAllowed, profileOf}
+use Rattle.profile.specs.Fields.{FieldSet, writeNumber, writeBytes, writeVersion}
+use Rattle.profile.specs.Reader.{names}
+
+-- empty, or of a permitted size
+abbrev pub bytesAllowed : BytesRule → List ℕ → Bool
+bytesAllowed r bs = empty bs || isSize r (length bs)
+
+-- ---- permitted fields: the id is known, its column allows the others, and no output stands without a salt
+
+-- the four byte strings hold bytes
+abbrev pub OfBytes : FieldSet → Type 0
+OfBytes f =
+    (all isByte (f .keyid) ≡ true) × (all isByte (f .ad) ≡ true) × (all isByte (f .salt) ≡ true) × (all isByte (f .output) ≡ true)
+
+pub record Permitted (e : List Profile) (f : FieldSet) : Type 0 where
+  pub id : profileOf e (f .numbers .id) .known ≡ true
+  pub version : versionAllowed (profileOf e (f .numbers .id)) (f .numbers .version) ≡ true
+  pub m : inRange (profileOf e (f .numbers .id) .m) (f .numbers .m) ≡ true
+  pub t : inRange (profileOf e (f .numbers .id) .t) (f .numbers .t) ≡ true
+  pub p : inRange (profileOf e (f .numbers .id) .p) (f .numbers .p) ≡ true
+  pub lanes : 8 * f .numbers .p ≤ f .numbers .m
+  pub keyid : bytesAllowed (profileOf e (f .numbers .id) .keyid) (f .keyid) ≡ true
+  pub ad : bytesAllowed (profileOf e (f .numbers .id) .ad) (f .ad) ≡ true
+  pub salt : bytesAllowed (profileOf e (f .numbers .id) .salt) (f .salt) ≡ true
+  pub output : bytesAllowed (profileOf e (f .numbers .id) .output) (f .output) ≡ true
+  pub order : (empty (f .salt) && not (empty (f .output))) ≡ false
+  pub bytes : OfBytes f
+
+-- ---- the writer's rows
+
+abbrev pub writerRows : List Profile → FieldSet → List Row
+writerRows e f =
+    let n = f .numbers in
+    let r = profileOf e (n .id) in
+    row 8 (not (r .known))
+    ∷ row 9 (not (versionAllowed r (n .version)))
+    ∷ row 11 (not (inRange (r .m) (n .m) && inRange (r .t) (n .t) && inRange (r .p) (n .p) && leb (8 * n .p) (n .m)))
+    ∷ row 12 (not (bytesAllowed (r .keyid) (f .keyid) && bytesAllowed (r .ad) (f .ad)))
+    ∷ row 14 (not (bytesAllowed (r .salt) (f .salt)))
+    ∷ row 15 (not (bytesAllowed (r .output) (f .output)))
+    ∷ row 16 (empty (f .salt) && not (empty (f .output)))
+    ∷ []
+
+-- the writer's number, before it looks at the room
+unfoldable pub refusal : List Profile → FieldSet → ℕ
+refusal e f = firstOf (writerRows e f)
+
+-- ---- the string
+
+-- the item of a name, where it has a value
+abbrev pub item : List ℕ → Slot → List Item
+item n none = []
+item n (some v) = (n, v) ∷ []
+
+abbrev pub itemList : List (List ℕ) → List Slot → List Item
+itemList [] vs = []
+itemList (n ∷ ns) [] = []
+itemList (n ∷ ns) (v ∷ vs) = item n v ++ itemList ns vs
+
+-- the values of the names
+abbrev pub fieldSlots : Profile → FieldSet → List Slot
+fieldSlots r f =
+    writeNumber (r .m) (f .numbers .m)
+    ∷ writeNumber (r .t) (f .numbers .t)
+    ∷ writeNumber (r .p) (f .numbers .p)
+    ∷ writeBytes (f .keyid)
+    ∷ writeBytes (f .ad)
+    ∷ []
+
+unfoldable pub fieldPieces : List Profile → FieldSet → Pieces
+fieldPieces e f =
+    let r = profileOf e (f .numbers .id) in
+    record {
+      id = r .name;
+      version = writeVersion (f .numbers .version);
+      params = paramsText (itemList names (fieldSlots r f));
+      salt = writeBytes (f .salt);
+      output = writeBytes (f .output);
+      more = [];
+    }
+
+-- the one string that fields are written to
+unfoldable pub formatted : List Profile → FieldSet → List ℕ
+formatted e f = string (fieldPieces e f)
+
+-- ---- the short writer: no keyid, no data, the profile's usual numbers
+
+unfoldable pub shortFields : List Profile → ℕ → List ℕ → List ℕ → FieldSet
+shortFields e k salt output =
+    let u = profileOf e k .usual in
+    record {
+      numbers = record { id = k; version = u .version; m = u .m; t = u .t; p = u .p };
+      keyid = [];
+      ad = [];
+      salt = salt;
+      output = output;
+    }
+
+abbrev pub shortRows : List Profile → ℕ → List ℕ → List ℕ → List Row
+shortRows e k salt output =
+    row 8 (not (profileOf e k .known))
+    ∷ row 14 (not (bytesAllowed (profileOf e k .salt) salt))
+    ∷ row 15 (not (bytesAllowed (profileOf e k .output) output))
+    ∷ row 16 (empty salt && not (empty output))
+    ∷ []
+
+unfoldable pub shortRefusal : List Profile → ℕ → List ℕ → List ℕ → ℕ
+shortRefusal e k salt output = firstOf (shortRows e k salt output)

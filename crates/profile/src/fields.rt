@@ -1,0 +1,37 @@
+// The fields of a string. The four byte strings travel beside the number fields.
+
+// A version field: absent, or the number written. Absent is a content of its own.
+pub enum Version {
+    Absent,
+    Number(u32),
+}
+
+// id is 1 to 5 in the order of the profiles' list; p is a u32, so that what is too large is refused and not wrapped.
+pub struct Fields {
+    pub id: u8,
+    pub version: Version,
+    pub m: u32,
+    pub t: u32,
+    pub p: u32,
+}
+
+// One of the four byte strings.
+pub enum ByteString {
+    Keyid,
+    Data,
+    Salt,
+    Output,
+}
+
+// What the profile reader gives: 0, the kind (1 parameters, 2 salt, 3 hash) and the number fields; or the refusal's number and zeros.
+pub struct Reading {
+    pub number: u8,
+    pub kind: u8,
+    pub fields: Fields,
+}
+
+// Which algorithm version a string means: 0 and the version, or the refusal's number and 0.
+pub struct Meaning {
+    pub number: u8,
+    pub version: u32,
+}
