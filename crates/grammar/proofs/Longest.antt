@@ -1,7 +1,7 @@
 -- A string whose pieces keep their rules has at most 2,896 bytes, and a piece that is there is not empty.
 -- Assumes nothing.
 use Prim.Native.Nat.{ℕ, suc, _≤_, _<_, _+_, _*_}
-use mathlib.Core.Bool.{Bool, true, false, not, true≢false, false≢true}
+use mathlib.Core.Bool.{true, false, not, true≢false, false≢true}
 use mathlib.Core.List.{List, [], _∷_, _++_, map}
 use mathlib.Core.Option.{none, some}
 use mathlib.Core.Path.{_≡_, refl, sym, _∙_, ap}
@@ -9,15 +9,15 @@ use native.Mathlib.Omega.{arith}
 use lib.Dec.{leb, eqb}
 use lib.ListN.{length, length-append}
 use borrow.Author.Tests.{leb-true}
-use Rattle.grammar.specs.Text.{within, all, empty, split, join, cut, headIf, listOf, broken}
+use Rattle.grammar.specs.Text.{within, all, empty, split, join, cut, listOf, broken}
 use Rattle.grammar.specs.Bytes.{inClass, isText}
 use Rattle.grammar.specs.B64.{canonical}
 use Rattle.grammar.specs.Decimal.{isDecimal, digits}
 use Rattle.grammar.specs.Numerals.{numeral, limitedReading, limitedNumber}
 use Rattle.grammar.specs.Limits.{longestString}
-use Rattle.grammar.specs.Pieces.{Slot, Pieces, isVersionPiece, afterFirst, pieces, slotOf, afterId, string}
+use Rattle.grammar.specs.Pieces.{Slot, Pieces, pieces, slotOf, afterId, string}
 use Rattle.grammar.specs.Items.{Item, itemText, items}
-use Rattle.grammar.specs.Rules.{isName, isValue, isItem, isParams, isVersion, isOutput, ruleOf, starts, firstOf, pieceRows, grammarNumber}
+use Rattle.grammar.specs.Rules.{isName, isValue, isItem, isParams, isVersion, isOutput, ruleOf, firstOf, pieceRows, grammarNumber}
 use Rattle.grammar.specs.declared.classes.Class.{Class}
 use Rattle.grammar.specs.declared.decimal.Limited.{Limited}
 use Rattle.grammar.specs.declared.decimal.Limited.the-variants.{Malformed, Outside, Value}
@@ -28,7 +28,6 @@ use Rattle.grammar.proofs.Rows.{Clear, clear}
 use Rattle.grammar.proofs.DecimalLaws.{length-digits}
 use Rattle.grammar.proofs.NumeralLaws.{digits-limited}
 use Rattle.grammar.proofs.ItemLaws.{item-name, item-value, join-items}
-use Rattle.grammar.proofs.PieceLaws.{string-pieces}
 use Rattle.grammar.proofs.Reading.{accepted-rows}
 
 -- ---- lengths

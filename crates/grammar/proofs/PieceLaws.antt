@@ -1,11 +1,11 @@
 -- A string is the string of its pieces, and pieces that sort as they stand are the pieces of their string.
 -- Assumes nothing.
 use Prim.Native.Nat.{ℕ}
-use mathlib.Core.Bool.{true, false, false≢true}
+use mathlib.Core.Bool.{true, false≢true}
 use mathlib.Core.List.{List, [], _∷_, _++_}
 use mathlib.Core.Path.{_≡_, sym, _∙_, ap}
 use borrow.Author.Tests.{eqb-true}
-use Rattle.grammar.specs.Text.{has, Parts, split, join, headIf, tailIf, listOf}
+use Rattle.grammar.specs.Text.{Parts, split, join, headIf, tailIf, listOf}
 use Rattle.grammar.specs.Pieces.{Pieces, belongs, sort, afterFirst, pieces, afterId, string}
 use Rattle.grammar.specs.Rules.{starts}
 use Rattle.grammar.specs.declared.pieces.Piece.the-variants.{Version, Params, Salt, Output}

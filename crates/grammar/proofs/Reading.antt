@@ -70,6 +70,14 @@ pub layout-accepted : (s : List ℕ) → grammarNumber s ≡ 0 → layout s ≡ 
 unfolding layout
 layout-accepted s e = rw e
 
+pub layout-number : (s : List ℕ) → layout s .number ≡ grammarNumber s
+unfolding layout
+layout-number s = go (eqb (grammarNumber s) 0) refl
+  where
+    go : (b : Bool) → eqb (grammarNumber s) 0 ≡ b → cond b (acceptedLayout (pieces s)) (refusedLayout (grammarNumber s)) .number ≡ grammarNumber s
+    go true e = sym (eqb-true (grammarNumber s) 0 e)
+    go false e = refl
+
 -- ---- one piece at its span
 
 module _ (s : List ℕ) (h : starts s ≡ true) (w : Piece) where

@@ -75,7 +75,7 @@ slots-good (n ∷ ns) (i ∷ is) e =
     others true = q .1
     others false = e
 
-params-all : (s : Slot) → broken isParams s ≡ false → (all isItem (itemsOf s) ≡ true) × (paramsText (itemsOf s) ≡ s)
+pub params-all : (s : Slot) → broken isParams s ≡ false → (all isItem (itemsOf s) ≡ true) × (paramsText (itemsOf s) ≡ s)
 unfolding isParams
 params-all none e = (refl, refl)
 params-all (some s) e =

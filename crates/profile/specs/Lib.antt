@@ -5,3 +5,4 @@ pub mod Writer
 pub mod Entries
 pub mod Claims
 pub mod Strings
+pub mod ReaderSteps

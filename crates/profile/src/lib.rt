@@ -1,3 +1,9 @@
 // The five profiles over the grammar's promises: argon2d, argon2i, argon2id, pbkdf2s2, pbkdf2s3.
+mod bytes_field;
 pub mod fields;
-pub mod limits;
+mod ids;
+mod judge;
+mod limits;
+mod number_field;
+pub mod reader;
+mod values;

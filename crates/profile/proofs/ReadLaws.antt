@@ -1,0 +1,248 @@
+-- One reading of a string that the grammar accepts: its slots, its rows and its fields, by the places of its pieces.
+-- Assumes nothing.
+use Prim.Native.Nat.{ℕ}
+use mathlib.Core.Bool.{Bool, true, false, not, cond}
+use mathlib.Core.List.{List, [], _∷_, _++_}
+use mathlib.Core.Option.{none, some}
+use mathlib.Core.Path.{_≡_, refl, sym, _∙_, ap}
+use native.Mathlib.Omega.{arith}
+use lib.Dec.{eqb}
+use lib.ListN.{length}
+use borrow.Author.Tests.{eqb-true, eqb-false, ne-eqb}
+use Rattle.grammar.specs.Text.{within, all, empty, broken}
+use Rattle.grammar.specs.Place.{refused, putAfter}
+use Rattle.grammar.specs.B64.{sextet, lowBitsZero, canonical, decode, decodeNumber, decoding}
+use Rattle.grammar.specs.Pieces.{Slot, Pieces, pieces, slotOf}
+use Rattle.grammar.specs.Items.{Item, items, itemsOf}
+use Rattle.grammar.specs.Rules.{Row, firstOf, isItem, isOutput, grammarRows, grammarNumber}
+use Rattle.grammar.specs.Layout.{placesOf, spanOf}
+use Rattle.grammar.specs.Parts.{partAt, textOf}
+use Rattle.grammar.specs.declared.pieces.Piece.{Piece}
+use Rattle.grammar.specs.declared.pieces.Piece.the-variants.{Id, Params, Version as Piece·Version, Salt as Piece·Salt, Output as Piece·Output}
+use Rattle.grammar.specs.declared.pieces.Span.{Span}
+use Rattle.grammar.specs.declared.pieces.Places.{Places}
+use Rattle.grammar.proofs.Tests.{both, neither, is-true}
+use Rattle.grammar.proofs.Writing.{put-refused}
+use Rattle.grammar.proofs.Rows.{Clear, clear}
+use Rattle.grammar.proofs.Reading.{accepted-rows, accepted-starts, slot-absent, slot-present, piece-part}
+use Rattle.profile.specs.declared.limits.BytesRule.{BytesRule}
+use Rattle.profile.specs.declared.fields.Version.{Version}
+use Rattle.profile.specs.declared.fields.Reading.{Reading}
+use Rattle.profile.specs.declared.fields.ByteString.{ByteString}
+use Rattle.profile.specs.declared.fields.ByteString.the-variants.{Keyid, Data, Salt, Output}
+use Rattle.profile.specs.declared.judge.Judgement.{Judgement}
+use Rattle.profile.specs.declared.values.Values.{Values}
+use Rattle.profile.specs.declared.reader.Whole.{Whole}
+use Rattle.profile.specs.Limits.{Profile, idOf, profileOf, editionTwo}
+use Rattle.profile.specs.Fields.{chosen, isSized, isBytes, readNumber, readBytes, readVersion}
+use Rattle.profile.specs.Reader.{names, slots, strangers, slotAt, rowsFor, profileRows, answer, fieldsOf}
+use Rattle.profile.specs.Entries.{refusedReading, kindOf, reading, decoded}
+use Rattle.profile.specs.ReaderSteps.{slotIn, slotsIn, ValuesAre, Judged, chosenText, WholeIs}
+use Rattle.profile.proofs.Accepted.{params-all}
+use Rattle.profile.proofs.SlotLaws.{slot-none, slot-some}
+
+-- rows that don't apply leave the number to those after them
+first-after : (xs ys : List Row) → Clear xs → firstOf (xs ++ ys) ≡ firstOf ys
+first-after [] ys c = refl
+first-after (x ∷ xs) ys c = rw (c .0) (first-after xs ys (c .1))
+
+pub answer-rows : (e : List Profile) (s : List ℕ) → grammarNumber s ≡ 0 → answer e s ≡ firstOf (profileRows e (pieces s))
+unfolding answer
+answer-rows e s z = first-after (grammarRows s) (profileRows e (pieces s)) (accepted-rows s z)
+
+-- the number of a string that the grammar refuses
+pub answer-refused : (e : List Profile) (s : List ℕ) (n : ℕ) → grammarNumber s ≡ n → (n ≡ 0 → ⊥) → answer e s ≡ n
+unfolding answer grammarNumber
+answer-refused e s n q z = first-of (grammarRows s) (profileRows e (pieces s)) n q z
+  where
+    first-of : (xs ys : List Row) (n : ℕ) → firstOf xs ≡ n → (n ≡ 0 → ⊥) → firstOf (xs ++ ys) ≡ n
+    first-of [] ys n q z = absurd (z (sym q))
+    first-of (x ∷ xs) ys n q z = go (x .applies) q (first-of xs ys n)
+      where
+        go : (b : Bool) → cond b (x .number) (firstOf xs) ≡ n → (firstOf xs ≡ n → (n ≡ 0 → ⊥) → firstOf (xs ++ ys) ≡ n)
+            → cond b (x .number) (firstOf (xs ++ ys)) ≡ n
+        go true q r = q
+        go false q r = r q z
+
+pub reading-refused : (e : List Profile) (s : List ℕ) (n : ℕ) → answer e s ≡ n → (n ≡ 0 → ⊥) → refusedReading n ≡ reading e s
+unfolding reading
+reading-refused e s n q z = rw (q, ne-eqb n 0 z)
+
+-- ---- the slots at the places of the pieces
+
+module _ (s : List ℕ) (z : grammarNumber s ≡ 0) where
+  abbrev P : Pieces
+  P = pieces s
+
+  pub slot-piece : (w : Piece) → slotIn s (spanOf (placesOf (pieces s)) w) ≡ slotOf (pieces s) w
+  slot-piece w = go (eqb (v .at) 0) refl
+    where
+      v : Span
+      v = spanOf (placesOf (pieces s)) w
+
+      go : (b : Bool) → eqb (v .at) 0 ≡ b → slotIn s v ≡ slotOf (pieces s) w
+      go true e = slot-none s v (eqb-true (v .at) 0 e) ∙ sym (slot-absent s (accepted-starts s z) w (eqb-true (v .at) 0 e))
+      go false e = slot-some s v (eqb-false (v .at) 0 e) ∙ sym (slot-present s (accepted-starts s z) w (eqb-false (v .at) 0 e))
+
+  -- the items of the parameter piece, where there is one
+  pub items-there : cond (not (eqb (placesOf (pieces s) .params .at) 0)) (items (partAt s (placesOf (pieces s) .params))) [] ≡ itemsOf (pieces s .params)
+  items-there = go (eqb (placesOf (pieces s) .params .at) 0) refl
+    where
+      go : (b : Bool) → eqb (placesOf (pieces s) .params .at) 0 ≡ b
+          → cond (not b) (items (partAt s (placesOf (pieces s) .params))) [] ≡ itemsOf (pieces s .params)
+      go true e = ap itemsOf (sym (slot-absent s (accepted-starts s z) Params (eqb-true _ 0 e)))
+      go false e = ap itemsOf (sym (slot-present s (accepted-starts s z) Params (eqb-false _ 0 e)))
+
+  -- and they keep their rule
+  pub items-good : all isItem (itemsOf (pieces s .params)) ≡ true
+  items-good = params-all (pieces s .params) (accepted-rows s z .1 .1 .1 .0) .0
+
+-- the items of the text at the parameters' place, where there is one, keep their rule
+pub part-items : (s : List ℕ) → grammarNumber s ≡ 0 → (places : Places) → places ≡ placesOf (pieces s) → (t : List ℕ) → t ≡ partAt s (places .params)
+    → not (eqb (places .params .at) 0) ≡ true → all isItem (items t) ≡ true
+part-items s z places e t q b =
+    let same : cond (not (eqb (places .params .at) 0)) (items (partAt s (places .params))) [] ≡ itemsOf (pieces s .params) =
+    ap (λ (x : Places). cond (not (eqb (x .params .at) 0)) (items (partAt s (x .params))) []) e ∙ items-there s z in
+    let here : items (partAt s (places .params)) ≡ itemsOf (pieces s .params) = rw b at same in
+    ap (λ (l : List ℕ). all isItem (items l)) q ∙ ap (all isItem) here ∙ items-good s z
+
+-- ---- a byte string by its slot
+
+canonical-none : canonical [] ≡ true
+unfolding canonical lowBitsZero sextet
+canonical-none = refl
+
+canonical-slot : (r : BytesRule) (o : Slot) → broken (isBytes r) o ≡ false → canonical (textOf o) ≡ true
+canonical-slot r none e = canonical-none
+canonical-slot r (some t) e = both (canonical t) (isSized r t) (is-true (isBytes r t) e) .0
+
+canonical-output : (o : Slot) → broken isOutput o ≡ false → canonical (textOf o) ≡ true
+unfolding isOutput
+canonical-output none e = canonical-none
+canonical-output (some t) e = both (within 1 128 (length t)) (canonical t) (is-true (isOutput t) e) .1
+
+decode-slot : (o : Slot) → decode (textOf o) ≡ readBytes o
+unfolding decode
+decode-slot none = refl
+decode-slot (some t) = refl
+
+-- ---- what was found at the places of an accepted string's pieces
+
+pub record Found (s : List ℕ) (places : Places) (values : Values) (id : ℕ) (version : Version) : Type 0 where
+  pub id-is : id ≡ idOf editionTwo (pieces s .id)
+  pub version-is : version ≡ readVersion (pieces s .version)
+  pub slots-are : slotsIn (partAt s (places .params)) values ≡ slots names (itemsOf (pieces s .params))
+  pub strange-is : values .strange ≡ not (empty (strangers names (itemsOf (pieces s .params))))
+  pub salt-is : slotIn s (places .salt) ≡ pieces s .salt
+  pub output-is : slotIn s (places .output) ≡ pieces s .output
+
+pub found : (s : List ℕ) → grammarNumber s ≡ 0 → (places : Places) → places ≡ placesOf (pieces s) → (values : Values) (id : ℕ) (version : Version)
+    → id ≡ idOf editionTwo (partAt s (places .id))
+    → version ≡ readVersion (slotIn s (places .version))
+    → ValuesAre (partAt s (places .params)) (cond (not (eqb (places .params .at) 0)) (items (partAt s (places .params))) []) values
+    → Found s places values id version
+found s z places e values id version i v w =
+    record {
+      id-is = i ∙ ap (λ (x : Places). idOf editionTwo (partAt s (x .id))) e ∙ ap (idOf editionTwo) (piece-part s (accepted-starts s z) Id);
+      version-is = v ∙ ap (λ (x : Places). readVersion (slotIn s (x .version))) e ∙ ap readVersion (slot-piece s z Piece·Version);
+      slots-are = w .found ∙ ap (slots names) same-items;
+      strange-is = w .strange-is ∙ ap (λ (is : List Item). not (empty (strangers names is))) same-items;
+      salt-is = ap (λ (x : Places). slotIn s (x .salt)) e ∙ slot-piece s z Piece·Salt;
+      output-is = ap (λ (x : Places). slotIn s (x .output)) e ∙ slot-piece s z Piece·Output;
+    }
+  where
+    same-items : cond (not (eqb (places .params .at) 0)) (items (partAt s (places .params))) [] ≡ itemsOf (pieces s .params)
+    same-items =
+        ap (λ (x : Places). cond (not (eqb (x .params .at) 0)) (items (partAt s (x .params))) []) e ∙ items-there s z
+
+module _ (s : List ℕ) (z : grammarNumber s ≡ 0) (places : Places) (values : Values) (id : ℕ) (version : Version)
+    (f : Found s places values id version) (j : Judgement)
+    (d : Judged (rowsFor editionTwo id version (slotsIn (partAt s (places .params)) values) (values .strange) (slotIn s (places .salt)) (slotIn s (places .output)))
+    (profileOf editionTwo id) (slotsIn (partAt s (places .params)) values) j) where
+  same-rows : rowsFor editionTwo id version (slotsIn (partAt s (places .params)) values) (values .strange) (slotIn s (places .salt)) (slotIn s (places .output))
+      ≡ profileRows editionTwo (pieces s)
+  same-rows = λ i. rowsFor editionTwo (f .id-is i) (f .version-is i) (f .slots-are i) (f .strange-is i) (f .salt-is i) (f .output-is i)
+
+  pub judged-number : answer editionTwo s ≡ j .number
+  judged-number = answer-rows editionTwo s z ∙ ap firstOf (sym same-rows) ∙ sym (d .number-is)
+
+  no-row : j .number ≡ 0 → firstOf (rowsFor editionTwo id version (slotsIn (partAt s (places .params)) values) (values .strange) (slotIn s (places .salt)) (slotIn s (places .output))) ≡ 0
+  no-row q = sym (d .number-is) ∙ q
+
+  -- the numbers and the kind of an accepted string
+  pub accepted-reading : j .number ≡ 0 → (k : ℕ) → ((t : List ℕ) → k ≡ kindOf (slotIn t (places .salt)) (slotIn t (places .output)))
+      → _≡_ {A = Reading} (record { number = 0; kind = k; fields = record { id = id; version = version; m = j .m; t = j .t; p = j .p } }) (reading editionTwo s)
+  unfolding reading fieldsOf
+  accepted-reading q k kinds =
+      let a : answer editionTwo s ≡ 0 = judged-number ∙ q in
+      let n = no-row q in
+      let m : j .m ≡ fieldsOf editionTwo s .numbers .m = d .m-is n ∙ (λ i. readNumber (profileOf editionTwo (f .id-is i) .m) (slotAt (f .slots-are i) 0)) in
+      let t : j .t ≡ fieldsOf editionTwo s .numbers .t = d .t-is n ∙ (λ i. readNumber (profileOf editionTwo (f .id-is i) .t) (slotAt (f .slots-are i) 1)) in
+      let p : j .p ≡ fieldsOf editionTwo s .numbers .p = d .p-is n ∙ (λ i. readNumber (profileOf editionTwo (f .id-is i) .p) (slotAt (f .slots-are i) 2)) in
+      let c : k ≡ kindOf (pieces s .salt) (pieces s .output) = kinds s ∙ (λ i. kindOf (f .salt-is i) (f .output-is i)) in
+      rw a (λ i. record { number = 0; kind = c i; fields = record { id = f .id-is i; version = f .version-is i; m = m i; t = t i; p = p i } })
+
+  -- the texts of the four byte strings of an accepted string
+  pub accepted-texts : j .number ≡ 0 → (reading-was : Reading) (c : ByteString)
+      → let w : Whole = record { reading = reading-was; places = places; values = values } in
+      (canonical (chosenText s w c) ≡ true) × (decode (chosenText s w c) ≡ chosen c (fieldsOf editionTwo s))
+  unfolding fieldsOf
+  accepted-texts q reading-was c = pick c
+    where
+      rows : Clear (profileRows editionTwo (pieces s))
+      rows = clear (profileRows editionTwo (pieces s)) refl (sym (answer-rows editionTwo s z) ∙ judged-number ∙ q)
+
+      vs : List Slot
+      vs = slots names (itemsOf (pieces s .params))
+
+      r : Profile
+      r = profileOf editionTwo (idOf editionTwo (pieces s .id))
+
+      strings : (broken (isBytes (r .keyid)) (slotAt vs 3) ≡ false) × (broken (isBytes (r .ad)) (slotAt vs 4) ≡ false)
+      strings = neither (broken (isBytes (r .keyid)) (slotAt vs 3)) (broken (isBytes (r .ad)) (slotAt vs 4)) (rows .1 .1 .1 .1 .0)
+
+      -- a slot that is the one of the rules
+      by : (o u : Slot) → o ≡ u → canonical (textOf u) ≡ true → (canonical (textOf o) ≡ true) × (decode (textOf o) ≡ readBytes u)
+      by o u e h = (ap (λ (x : Slot). canonical (textOf x)) e ∙ h, decode-slot o ∙ ap readBytes e)
+
+      at : (k : ℕ) → slotAt (slotsIn (partAt s (places .params)) values) k ≡ slotAt vs k
+      at k = ap (λ (l : List Slot). slotAt l k) (f .slots-are)
+
+      w : Whole
+      w = record { reading = reading-was; places = places; values = values }
+
+      pick : (c : ByteString) → (canonical (chosenText s w c) ≡ true) × (decode (chosenText s w c) ≡ chosen c (fieldsOf editionTwo s))
+      pick Keyid = by _ (slotAt vs 3) (at 3) (canonical-slot (r .keyid) (slotAt vs 3) (strings .0))
+      pick Data = by _ (slotAt vs 4) (at 4) (canonical-slot (r .ad) (slotAt vs 4) (strings .1))
+      pick Salt = by _ (pieces s .salt) (f .salt-is) (canonical-slot (r .salt) (pieces s .salt) (rows .1 .1 .1 .1 .1 .1 .0))
+      pick Output = by _ (pieces s .output) (f .output-is) (canonical-output (pieces s .output) (accepted-rows s z .1 .1 .1 .1 .1 .0))
+
+-- ---- what a reading that refuses, and one that accepts, leaves to the byte-string entry
+
+pub whole-refused : (s : List ℕ) (w : Whole) → w .reading ≡ reading editionTwo s → (w .reading .number ≡ 0 → ⊥) → WholeIs s w
+whole-refused s w e n = record { reading-is = e; texts = λ z c. absurd (n z) }
+
+reading-number : (e : List Profile) (s : List ℕ) → reading e s .number ≡ answer e s
+unfolding reading
+reading-number e s = go (eqb (answer e s) 0) refl
+  where
+    go : (b : Bool) → eqb (answer e s) 0 ≡ b
+        → cond b (record { number = 0; kind = kindOf (pieces s .salt) (pieces s .output); fields = fieldsOf e s .numbers }) (refusedReading (answer e s)) .number ≡ answer e s
+    go true q = sym (eqb-true (answer e s) 0 q)
+    go false q = refl
+
+module _ (s : List ℕ) (w : Whole) (h : WholeIs s w) (c : ByteString) (buffer : List ℕ) (at : ℕ) where
+  number-is : answer editionTwo s ≡ w .reading .number
+  number-is = sym (ap (λ (r : Reading). r .number) (h .reading-is) ∙ reading-number editionTwo s)
+
+  pub bytes-refused : (w .reading .number ≡ 0 → ⊥) → refused (w .reading .number) buffer ≡ decoded editionTwo c s buffer at
+  unfolding decoded
+  bytes-refused n = put-refused buffer at (chosen c (fieldsOf editionTwo s)) (answer editionTwo s) (w .reading .number) number-is (omega (arith, n))
+
+  pub bytes-decoded : w .reading .number ≡ 0 → (t : List ℕ) → t ≡ chosenText s w c → decoding t buffer at ≡ decoded editionTwo c s buffer at
+  unfolding decoded
+  bytes-decoded z t q =
+      let k = h .texts z c in
+      let n : decodeNumber t ≡ answer editionTwo s = ap decodeNumber q ∙ ap (λ (b : Bool). cond b 0 12) (k .0) ∙ sym (number-is ∙ z) in
+      let d : decode t ≡ chosen c (fieldsOf editionTwo s) = ap decode q ∙ k .1 in
+      λ i. putAfter (n i) buffer at (d i)

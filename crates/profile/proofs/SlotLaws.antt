@@ -1,0 +1,17 @@
+-- A span that may not be there: its text by whether its place is 0.
+-- Assumes nothing.
+use Prim.Native.Nat.{ℕ}
+use mathlib.Core.Path.{_≡_}
+use mathlib.Core.List.{List}
+use mathlib.Core.Option.{none, some}
+use borrow.Author.Tests.{eq-eqb, ne-eqb}
+use Rattle.grammar.specs.Parts.{partAt}
+use Rattle.grammar.specs.declared.pieces.Span.{Span}
+use Rattle.profile.specs.ReaderSteps.{slotIn}
+
+module _ (s : List ℕ) (w : Span) where
+  pub slot-none : w .at ≡ 0 → slotIn s w ≡ none
+  slot-none z = rw (eq-eqb (w .at) 0 z)
+
+  pub slot-some : (w .at ≡ 0 → ⊥) → slotIn s w ≡ some (partAt s w)
+  slot-some n = rw (ne-eqb (w .at) 0 n)

@@ -1,0 +1,32 @@
+-- `profile::bytes_field::bad_size` meets its contract. Assumes nothing.
+use borrow.Author.Needs.{needs}
+use denote.Ref.{now}
+use Rattle.grammar.specs.Parts.{partAt}
+use Rattle.grammar.proofs.B64Laws.{length-decode}
+use Rattle.profile.proofs.SlotLaws.{slot-none, slot-some}
+use Rattle.profile.proofs.bytes_field.bad_size.Statement.{statement}
+use Rattle.profile.proofs.bytes_field.bad_size.Tie as tie
+
+returns : tie.Need-returns
+returns c =
+    let a = c .before .before .before .args in
+    rw (slot-none (now (a .t)) (a .span) (c .if1 .taken))
+
+part-requires : tie.Need-part-requires
+part-requires c κs = search needs
+
+decoded-len-requires : tie.Need-decoded-len-requires
+decoded-len-requires c κs = search needs
+
+is-size-requires : tie.Need-is-size-requires
+is-size-requires c κs = search needs
+
+returns-2 : tie.Need-returns-2
+returns-2 c =
+    let p = c .before .before in
+    let a = p .before .before .before .before .args in
+    rw (slot-some (now (a .t)) (a .span) (p .before .if1 .left), c .is-size .ensures, c .before .decoded-len .ensures, length-decode (partAt (now (a .t)) (a .span)), p .part .ensures)
+
+pub bad-size-spec : {M : Type 1} → statement M
+bad-size-spec =
+    tie.close (tie.spec returns part-requires decoded-len-requires is-size-requires returns-2)

@@ -1,0 +1,109 @@
+-- `profile::judge::is_misplaced` meets its contract. Assumes nothing.
+use Prim.Native.Nat.{ℕ}
+use borrow.Author.Needs.{needs}
+use mathlib.Core.Bool.{Bool, _||_}
+use mathlib.Core.List.{List}
+use mathlib.Core.Path.{_≡_, sym, _∙_}
+use Rattle.profile.specs.Fields.{misplacedNumber, misplacedBytes}
+use Rattle.profile.specs.Reader.{misplaced}
+use Rattle.profile.specs.ReaderSteps.{slotIn, slotsIn}
+use Rattle.profile.proofs.JudgeLaws.{entryOf, misplaced-by}
+use Rattle.profile.proofs.judge.is_misplaced.Statement.{statement}
+use Rattle.profile.proofs.judge.is_misplaced.Tie as tie
+
+-- the tests over a text: all, and each
+abbrev tests : tie.Start → List ℕ → Bool
+tests a u = misplaced (entryOf (a .args .limits)) (slotsIn u (a .args .values))
+
+abbrev t : tie.Start → List ℕ → Bool
+t a u = misplacedNumber (a .args .limits .t) (slotIn u (a .args .values .t))
+
+abbrev p : tie.Start → List ℕ → Bool
+p a u = misplacedNumber (a .args .limits .p) (slotIn u (a .args .values .p))
+
+abbrev keyid : tie.Start → List ℕ → Bool
+keyid a u = misplacedBytes (a .args .limits .keyid) (slotIn u (a .args .values .keyid))
+
+abbrev ad : tie.Start → List ℕ → Bool
+ad a u = misplacedBytes (a .args .limits .ad) (slotIn u (a .args .values .ad))
+
+-- what is left of the tests past each
+abbrev rest-1 : tie.Start → List ℕ → Bool
+rest-1 a u = t a u || p a u || keyid a u || ad a u
+
+abbrev rest-2 : tie.Start → List ℕ → Bool
+rest-2 a u = p a u || keyid a u || ad a u
+
+abbrev rest-3 : tie.Start → List ℕ → Bool
+rest-3 a u = keyid a u || ad a u
+
+abbrev rest-4 : tie.Start → List ℕ → Bool
+rest-4 a u = ad a u
+
+-- past each test that came out false
+past-1 : (c : tie.Else1) (u : List ℕ) → tests (c .before .before .before) u ≡ rest-1 (c .before .before .before) u
+past-1 c u = rw (← c .before .misplaced-number .ensures u, c .if1 .left)
+
+past-2 : (c : tie.Else2) (u : List ℕ) → tests (c .before .before .before .before .before .before) u ≡ rest-2 (c .before .before .before .before .before .before) u
+past-2 c u = past-1 (c .before .before .before) u ∙ rw (← c .before .misplaced-number2 .ensures u, c .if2 .left)
+
+past-3 : (c : tie.Else3) (u : List ℕ) → tests (c .before .before .before .before .before .before .before .before .before) u ≡ rest-3 (c .before .before .before .before .before .before .before .before .before) u
+past-3 c u = past-2 (c .before .before .before) u ∙ rw (← c .before .misplaced-number3 .ensures u, c .if3 .left)
+
+past-4 : (c : tie.Else4) (u : List ℕ) → tests (c .before .before .before .before .before .before .before .before .before .before .before .before) u ≡ rest-4 (c .before .before .before .before .before .before .before .before .before .before .before .before) u
+past-4 c u = past-3 (c .before .before .before) u ∙ rw (← c .before .misplaced-bytes .ensures u, c .if4 .left)
+
+misplaced-number-requires : tie.Need-misplaced-number-requires
+misplaced-number-requires c κs = search needs
+
+returns : tie.Need-returns
+returns c =
+    let a = c .before .before .before .args in
+    λ e u q. sym (rw (← c .before .misplaced-number .ensures u, c .if1 .taken)) ∙ misplaced-by (a .limits) e (slotsIn u (a .values)) q
+
+misplaced-number-requires-2 : tie.Need-misplaced-number-requires-2
+misplaced-number-requires-2 c κs = search needs
+
+returns-2 : tie.Need-returns-2
+returns-2 c =
+    let a = c .before .before .before .before .before .before .args in
+    λ e u q. sym (past-1 (c .before .before .before) u ∙ rw (← c .before .misplaced-number2 .ensures u, c .if2 .taken)) ∙ misplaced-by (a .limits) e (slotsIn u (a .values)) q
+
+misplaced-number-requires-3 : tie.Need-misplaced-number-requires-3
+misplaced-number-requires-3 c κs = search needs
+
+returns-3 : tie.Need-returns-3
+returns-3 c =
+    let a = c .before .before .before .before .before .before .before .before .before .args in
+    λ e u q. sym (past-2 (c .before .before .before) u ∙ rw (← c .before .misplaced-number3 .ensures u, c .if3 .taken)) ∙ misplaced-by (a .limits) e (slotsIn u (a .values)) q
+
+misplaced-bytes-requires : tie.Need-misplaced-bytes-requires
+misplaced-bytes-requires c κs = search needs
+
+returns-4 : tie.Need-returns-4
+returns-4 c =
+    let a = c .before .before .before .before .before .before .before .before .before .before .before .before .args in
+    λ e u q. sym (past-3 (c .before .before .before) u ∙ rw (← c .before .misplaced-bytes .ensures u, c .if4 .taken)) ∙ misplaced-by (a .limits) e (slotsIn u (a .values)) q
+
+misplaced-bytes-requires-2 : tie.Need-misplaced-bytes-requires-2
+misplaced-bytes-requires-2 c κs = search needs
+
+returns-5 : tie.Need-returns-5
+returns-5 c =
+    let a = c .before .before .before .before .before .before .before .before .before .before .before .before .before .before .args in
+    λ e u q. sym (past-4 (c .before .before) u ∙ sym (c .misplaced-bytes2 .ensures u)) ∙ misplaced-by (a .limits) e (slotsIn u (a .values)) q
+
+pub is-misplaced-spec : {M : Type 1} → statement M
+is-misplaced-spec =
+    tie.close
+    (tie.spec
+    misplaced-number-requires
+    returns
+    misplaced-number-requires-2
+    returns-2
+    misplaced-number-requires-3
+    returns-3
+    misplaced-bytes-requires
+    returns-4
+    misplaced-bytes-requires-2
+    returns-5)

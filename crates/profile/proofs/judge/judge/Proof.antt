@@ -1,0 +1,223 @@
+-- `profile::judge::judge` meets its contract. Assumes nothing.
+use Prim.Native.Nat.{ℕ}
+use borrow.Author.Needs.{needs}
+use borrow.Author.Tests.{eq-eqb, ne-eqb}
+use mathlib.Core.List.{List}
+use mathlib.Core.Path.{_≡_, refl, sym, _∙_, ap}
+use native.Mathlib.Omega.{arith}
+use lib.ListN.{drop}
+use denote.Ref.{now}
+use Rattle.grammar.specs.Text.{broken}
+use Rattle.grammar.specs.Pieces.{Slot}
+use Rattle.grammar.specs.Rules.{Row, firstOf}
+use Rattle.grammar.proofs.Rows.{clear}
+use Rattle.profile.specs.Limits.{Profile, profileOf, editionTwo}
+use Rattle.profile.specs.Fields.{isSized, isBytes}
+use Rattle.profile.specs.Reader.{misplaced, rowsFor}
+use Rattle.profile.specs.ReaderSteps.{slotIn, slotsIn, NumbersAre, spellingRows, Judged}
+use Rattle.profile.specs.declared.judge.Judgement.{Judgement}
+use Rattle.profile.specs.declared.limits.Limits.{Limits}
+use Rattle.profile.proofs.JudgeLaws.{rows-stop, rows-pass, judged-refused, judged-accepted}
+use Rattle.profile.proofs.judge.judge.Statement.{statement}
+use Rattle.profile.proofs.judge.judge.Tie as tie
+
+-- the entry, the values of the names, the two last slots, and the rows
+abbrev entry : tie.Start → Profile
+entry a = profileOf editionTwo (a .args .id)
+
+abbrev values : tie.Start → List Slot
+values a = slotsIn (now (a .args .params)) (a .args .values)
+
+abbrev salt : tie.Start → Slot
+salt a = slotIn (now (a .args .s)) (a .args .salt)
+
+abbrev output : tie.Start → Slot
+output a = slotIn (now (a .args .s)) (a .args .output)
+
+abbrev rows : tie.Start → List Row
+rows a = rowsFor editionTwo (a .args .id) (a .args .version) (values a) (a .args .values .strange) (salt a) (output a)
+
+abbrev spelling : tie.Start → List Row
+spelling a = spellingRows (entry a) (values a)
+
+refuse : (a : tie.Start) (j : Judgement) (n : ℕ) → j ≡ record { number = n; m = 0; t = 0; p = 0 } → firstOf (rows a) ≡ n → (n ≡ 0 → ⊥) → Judged (rows a) (entry a) (values a) j
+refuse a j n e h z = judged-refused (rows a) (entry a) (values a) j n e h z
+
+-- where the function began, from a place past each test
+abbrev at-1 : tie.Else1 → tie.Start
+at-1 c = c .before .before .before
+
+abbrev at-2 : tie.Else2 → tie.Start
+at-2 c = at-1 (c .before .before)
+
+abbrev at-3 : tie.Else3 → tie.Start
+at-3 c = at-2 (c .before .before)
+
+abbrev at-4 : tie.Else4 → tie.Start
+at-4 c = at-3 (c .before .before)
+
+abbrev at-5 : tie.Else5 → tie.Start
+at-5 c = at-4 (c .before .before)
+
+abbrev at-6 : tie.Else6 → tie.Start
+at-6 c = at-5 (c .before .before)
+
+abbrev at-7 : tie.Else7 → tie.Start
+at-7 c = at-6 (c .before .before)
+
+abbrev at-8 : tie.Else8 → tie.Start
+at-8 c = at-7 (c .before .before)
+
+-- what each step was told, of the entry
+misplaced-is : (c : tie.After-is-misplaced) → c .is-misplaced .result ≡ misplaced (entry (at-3 (c .before))) (values (at-3 (c .before)))
+misplaced-is c = c .is-misplaced .ensures (entry (at-3 (c .before))) _ (c .before .before .limits-of .ensures)
+
+numbers-are : (c : tie.After-read-numbers) → NumbersAre (entry (at-4 (c .before))) (values (at-4 (c .before))) (c .read-numbers .result .bad) (c .read-numbers .result .m) (c .read-numbers .result .t) (c .read-numbers .result .p)
+numbers-are c = c .read-numbers .ensures (entry (at-4 (c .before))) (c .before .before .before .before .limits-of .ensures)
+
+spelling-is : (c : tie.After-bytes-and-spelling) → c .bytes-and-spelling .result ≡ firstOf (spelling (at-5 (c .before)))
+spelling-is c = c .bytes-and-spelling .ensures (entry (at-5 (c .before))) (c .before .before .before .before .before .before .limits-of .ensures)
+
+salt-is : (c : tie.After-bad-bytes) → c .bad-bytes .result ≡ broken (isBytes (entry (at-6 (c .before)) .salt)) (salt (at-6 (c .before)))
+salt-is c = c .bad-bytes .ensures ∙ ap (λ (l : Limits). broken (isBytes (l .salt)) (salt (at-6 (c .before)))) (c .before .before .before .before .before .before .before .before .limits-of .ensures)
+
+output-is : (c : tie.After-bad-size) → c .bad-size .result ≡ broken (isSized (entry (at-7 (c .before)) .output)) (output (at-7 (c .before)))
+output-is c = c .bad-size .ensures ∙ ap (λ (l : Limits). broken (isSized (l .output)) (output (at-7 (c .before)))) (c .before .before .before .before .before .before .before .before .before .before .limits-of .ensures)
+
+-- past each row that does not apply
+past-8 : (c : tie.Else1) → firstOf (rows (at-1 c)) ≡ firstOf (drop 1 (rows (at-1 c)))
+past-8 c = rw (ne-eqb (at-1 c .args .id) 0 (c .if1 .left))
+
+past-9 : (c : tie.Else2) → firstOf (rows (c .before .before .before .before .before)) ≡ firstOf (drop 2 (rows (c .before .before .before .before .before)))
+past-9 c = past-8 (c .before .before) ∙ rw (← c .before .version-allowed .ensures, c .if2 .left)
+
+past-10 : (c : tie.Else4) → firstOf (rows (c .before .before .before .before .before .before .before .before .before)) ≡ firstOf (drop 3 (rows (c .before .before .before .before .before .before .before .before .before)))
+past-10 c = past-9 (c .before .before .before .before) ∙ rw (c .before .before .if3 .left, ← misplaced-is (c .before), c .if4 .left)
+
+past-11 : (c : tie.Else5) → firstOf (rows (at-5 c)) ≡ firstOf (drop 4 (rows (at-5 c)))
+past-11 c = past-10 (c .before .before) ∙ rw (← numbers-are (c .before) .bad-is, c .if5 .left)
+
+past-13 : (c : tie.Else6) → firstOf (rows (at-6 c)) ≡ firstOf (drop 6 (rows (at-6 c)))
+past-13 c = past-11 (c .before .before) ∙ rows-pass (spelling (at-6 c)) (drop 6 (rows (at-6 c))) (clear (spelling (at-6 c)) refl (sym (spelling-is (c .before)) ∙ c .if6 .left))
+
+past-14 : (c : tie.Else7) → firstOf (rows (at-7 c)) ≡ firstOf (drop 7 (rows (at-7 c)))
+past-14 c = past-13 (c .before .before) ∙ rw (← salt-is (c .before), c .if7 .left)
+
+refused-requires : tie.Need-refused-requires
+refused-requires c κs = search needs
+
+returns : tie.Need-returns
+returns c =
+    let a = c .before .before .before .before in
+    refuse a (c .refused .result) 8 (c .refused .ensures) (rw (eq-eqb (a .args .id) 0 (c .before .if1 .taken))) (λ z. absurd (omega arith))
+
+version-allowed-requires : tie.Need-version-allowed-requires
+version-allowed-requires c κs = search needs
+
+refused-requires-2 : tie.Need-refused-requires-2
+refused-requires-2 c κs = search needs
+
+returns-2 : tie.Need-returns-2
+returns-2 c =
+    let a = at-1 (c .before .before .before) in
+    refuse a (c .refused2 .result) 9 (c .refused2 .ensures) (past-8 (c .before .before .before) ∙ rw (← c .before .before .version-allowed .ensures, c .before .if2 .taken)) (λ z. absurd (omega arith))
+
+limits-of-requires : tie.Need-limits-of-requires
+limits-of-requires c κs = search needs
+
+refused-requires-3 : tie.Need-refused-requires-3
+refused-requires-3 c κs = search needs
+
+returns-3 : tie.Need-returns-3
+returns-3 c =
+    let a = c .before .before .before .before .before .before .before .before in
+    refuse a (c .refused3 .result) 10 (c .refused3 .ensures) (past-9 (c .before .before .before) ∙ rw (c .before .if3 .taken)) (λ z. absurd (omega arith))
+
+is-misplaced-requires : tie.Need-is-misplaced-requires
+is-misplaced-requires c κs = search needs
+
+refused-requires-4 : tie.Need-refused-requires-4
+refused-requires-4 c κs = search needs
+
+returns-4 : tie.Need-returns-4
+returns-4 c =
+    let a = c .before .before .before .before .before .before .before .before .before .before in
+    refuse a (c .refused4 .result) 10 (c .refused4 .ensures) (past-9 (c .before .before .before .before .before) ∙ rw (c .before .before .before .if3 .left, ← misplaced-is (c .before .before), c .before .if4 .taken)) (λ z. absurd (omega arith))
+
+read-numbers-requires : tie.Need-read-numbers-requires
+read-numbers-requires c κs = λ e q. sym (c .before .is-misplaced .ensures e _ q) ∙ c .if4 .left
+
+refused-requires-5 : tie.Need-refused-requires-5
+refused-requires-5 c κs = search needs
+
+returns-5 : tie.Need-returns-5
+returns-5 c =
+    let a = at-4 (c .before .before .before) in
+    refuse a (c .refused5 .result) 11 (c .refused5 .ensures) (past-10 (c .before .before .before) ∙ rw (← numbers-are (c .before .before) .bad-is, c .before .if5 .taken)) (λ z. absurd (omega arith))
+
+bytes-and-spelling-requires : tie.Need-bytes-and-spelling-requires
+bytes-and-spelling-requires c κs = search needs
+
+refused-requires-6 : tie.Need-refused-requires-6
+refused-requires-6 c κs = search needs
+
+returns-6 : tie.Need-returns-6
+returns-6 c =
+    let a = at-5 (c .before .before .before) in
+    refuse a (c .refused6 .result) (c .before .before .bytes-and-spelling .result) (c .refused6 .ensures) (past-11 (c .before .before .before) ∙ rows-stop (spelling a) (drop 6 (rows a)) (c .before .before .bytes-and-spelling .result) (spelling-is (c .before .before)) (c .before .if6 .taken)) (c .before .if6 .taken)
+
+bad-bytes-requires : tie.Need-bad-bytes-requires
+bad-bytes-requires c κs = search needs
+
+refused-requires-7 : tie.Need-refused-requires-7
+refused-requires-7 c κs = search needs
+
+returns-7 : tie.Need-returns-7
+returns-7 c =
+    let a = at-6 (c .before .before .before) in
+    refuse a (c .refused7 .result) 14 (c .refused7 .ensures) (past-13 (c .before .before .before) ∙ rw (← salt-is (c .before .before), c .before .if7 .taken)) (λ z. absurd (omega arith))
+
+bad-size-requires : tie.Need-bad-size-requires
+bad-size-requires c κs = search needs
+
+refused-requires-8 : tie.Need-refused-requires-8
+refused-requires-8 c κs = search needs
+
+returns-8 : tie.Need-returns-8
+returns-8 c =
+    let a = at-7 (c .before .before .before) in
+    refuse a (c .refused8 .result) 15 (c .refused8 .ensures) (past-14 (c .before .before .before) ∙ rw (← output-is (c .before .before), c .before .if8 .taken)) (λ z. absurd (omega arith))
+
+returns-9 : tie.Need-returns-9
+returns-9 c =
+    let a = at-8 c in
+    judged-accepted (rows a) (entry a) (values a) _ refl (past-14 (c .before .before) ∙ rw (← output-is (c .before), c .if8 .left)) (numbers-are (c .before .before .before .before .before .before .before))
+
+pub judge-spec : {M : Type 1} → statement M
+judge-spec =
+    tie.close
+    (tie.spec
+    refused-requires
+    returns
+    version-allowed-requires
+    refused-requires-2
+    returns-2
+    limits-of-requires
+    refused-requires-3
+    returns-3
+    is-misplaced-requires
+    refused-requires-4
+    returns-4
+    read-numbers-requires
+    refused-requires-5
+    returns-5
+    bytes-and-spelling-requires
+    refused-requires-6
+    returns-6
+    bad-bytes-requires
+    refused-requires-7
+    returns-7
+    bad-size-requires
+    refused-requires-8
+    returns-8
+    returns-9)

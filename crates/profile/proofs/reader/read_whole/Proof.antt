@@ -1,0 +1,51 @@
+-- `profile::reader::read_whole` meets its contract. Assumes nothing.
+use borrow.Author.Needs.{needs}
+use mathlib.Core.Path.{_≡_, sym, _∙_, ap}
+use denote.Ref.{now}
+use Rattle.grammar.specs.Rules.{grammarNumber}
+use Rattle.grammar.specs.declared.pieces.Layout.{Layout}
+use Rattle.grammar.proofs.Reading.{layout-number, layout-accepted}
+use Rattle.profile.specs.Limits.{editionTwo}
+use Rattle.profile.specs.declared.fields.Reading.{Reading}
+use Rattle.profile.proofs.ReadLaws.{answer-refused, reading-refused, whole-refused}
+use Rattle.profile.proofs.reader.read_whole.Statement.{statement}
+use Rattle.profile.proofs.reader.read_whole.Tie as tie
+
+read-requires : tie.Need-read-requires
+read-requires c κs = search needs
+
+refused-requires : tie.Need-refused-requires
+refused-requires c κs = search needs
+
+no-values-requires : tie.Need-no-values-requires
+no-values-requires c κs = search needs
+
+returns : tie.Need-returns
+returns c =
+    let r = c .before .before .before .before in
+    let s = now (r .before .before .args .s) in
+    let n = c .before .before .if1 .taken in
+    let e : grammarNumber s ≡ r .read .result .number = sym (ap (λ (l : Layout). l .number) (r .read .ensures) ∙ layout-number s) in
+    let q = reading-refused editionTwo s (r .read .result .number) (answer-refused editionTwo s (r .read .result .number) e n) n in
+    whole-refused s _ (c .before .refused .ensures ∙ q) (λ z. n (sym (ap (λ (x : Reading). x .number) (c .before .refused .ensures)) ∙ z))
+
+read-pieces-requires : tie.Need-read-pieces-requires
+read-pieces-requires c κs =
+    let r = c .before .before in
+    let s = now (r .before .before .args .s) in
+    let e : grammarNumber s ≡ 0 = sym (ap (λ (l : Layout). l .number) (r .read .ensures) ∙ layout-number s) ∙ c .if1 .left in
+    (e, ap (λ (l : Layout). l .places) (r .read .ensures ∙ layout-accepted s e))
+
+returns-2 : tie.Need-returns-2
+returns-2 c = search needs
+
+pub read-whole-spec : {M : Type 1} → statement M
+read-whole-spec =
+    tie.close
+    (tie.spec
+    read-requires
+    refused-requires
+    no-values-requires
+    returns
+    read-pieces-requires
+    returns-2)

@@ -1,0 +1,31 @@
+-- `profile::reader::text_at` meets its contract. Assumes nothing.
+use borrow.Author.Needs.{needs}
+use mathlib.Core.Path.{sym, _∙_, ap}
+use denote.Ref.{now}
+use Rattle.grammar.specs.Parts.{textOf}
+use Rattle.profile.proofs.SlotLaws.{slot-none, slot-some}
+use Rattle.profile.proofs.reader.text_at.Statement.{statement}
+use Rattle.profile.proofs.reader.text_at.Tie as tie
+
+sub-result : tie.Need-sub-result
+sub-result c = search needs
+
+part-result-start : tie.Need-part-result-start
+part-result-start c = search needs
+
+part-result-end : tie.Need-part-result-end
+part-result-end c = search needs
+
+returns : tie.Need-returns
+returns c = sym (ap textOf (slot-none (now (c .before .before .before .before .args .t)) (c .before .before .before .before .args .span) (c .before .if1 .taken)))
+
+part-requires : tie.Need-part-requires
+part-requires c κs = search needs
+
+returns-2 : tie.Need-returns-2
+returns-2 c = c .part .ensures ∙ sym (ap textOf (slot-some (now (c .before .before .before .before .args .t)) (c .before .before .before .before .args .span) (c .before .if1 .left)))
+
+pub text-at-spec : {M : Type 1} → statement M
+text-at-spec =
+    tie.close
+    (tie.spec sub-result part-result-start part-result-end returns part-requires returns-2)

@@ -1,0 +1,84 @@
+-- What the private steps of the profile reader promise each other. Nothing here is a rule: no public contract cites it.
+-- Assumes nothing.
+use Prim.Native.Nat.{ℕ}
+use mathlib.Core.Path.{_≡_}
+use mathlib.Core.Bool.{Bool, true, not, cond, _||_}
+use mathlib.Core.List.{List, [], _∷_, map}
+use mathlib.Core.Option.{none, some}
+use lib.Dec.{eqb}
+use Rattle.grammar.specs.Text.{empty, cut, headIf, tailIf, broken}
+use Rattle.grammar.specs.Pieces.{Slot}
+use Rattle.grammar.specs.Items.{Item}
+use Rattle.grammar.specs.Parts.{partAt, textOf}
+use Rattle.grammar.specs.SortingSteps.{partsFrom}
+use Rattle.grammar.specs.declared.pieces.Span.{Span}
+use Rattle.grammar.specs.Rules.{Row, row, firstOf}
+use Rattle.grammar.specs.B64.{canonical, decode}
+use Rattle.profile.specs.Limits.{Profile, editionTwo}
+use Rattle.profile.specs.Fields.{chosen, isBytes, readNumber, writtenOut}
+use Rattle.profile.specs.Reader.{names, named, itemValue, slots, strangers, slotAt, badNumbers, fieldsOf}
+use Rattle.profile.specs.Entries.{reading}
+use Rattle.profile.specs.declared.judge.Judgement.{Judgement}
+use Rattle.profile.specs.declared.fields.ByteString.{ByteString}
+use Rattle.profile.specs.declared.fields.ByteString.the-variants.{Keyid, Data, Salt, Output}
+use Rattle.profile.specs.declared.reader.Whole.{Whole}
+use Rattle.profile.specs.declared.values.Values.{Values}
+
+-- the text of a span that may not be there
+abbrev pub slotIn : List ℕ → Span → Slot
+slotIn s w = cond (eqb (w .at) 0) none (some (partAt s w))
+
+-- the items of a parameter piece from a place on
+abbrev pub itemsFrom : List ℕ → ℕ → List Item
+itemsFrom s at = map (cut 61) (partsFrom 44 s at)
+
+-- a step of the walk over the items: the value of the name, if the next item has it, and where the items left begin
+pub record ValueStep (params name : List ℕ) (at : ℕ) (span : Span) (next : ℕ) : Type 0 where
+  pub found : slotIn params span ≡ itemValue (headIf (named name) (itemsFrom params at))
+  pub left : itemsFrom params next ≡ tailIf (named name) (itemsFrom params at)
+
+abbrev pub slotsIn : List ℕ → Values → List Slot
+slotsIn s v = slotIn s (v .m) ∷ slotIn s (v .t) ∷ slotIn s (v .p) ∷ slotIn s (v .keyid) ∷ slotIn s (v .ad) ∷ []
+
+-- the whole walk
+pub record ValuesAre (params : List ℕ) (is : List Item) (v : Values) : Type 0 where
+  pub found : slotsIn params v ≡ slots names is
+  pub strange-is : v .strange ≡ not (empty (strangers names is))
+
+-- ---- the judge
+
+-- the numbers of an entry, as they stand in the values
+pub record NumbersAre (r : Profile) (vs : List Slot) (bad : Bool) (m t p : ℕ) : Type 0 where
+  pub bad-is : bad ≡ badNumbers r vs
+  pub m-is : m ≡ readNumber (r .m) (slotAt vs 0)
+  pub t-is : t ≡ readNumber (r .t) (slotAt vs 1)
+  pub p-is : p ≡ readNumber (r .p) (slotAt vs 2)
+
+-- rows 12 and 13
+abbrev pub spellingRows : Profile → List Slot → List Row
+spellingRows r vs =
+    row 12 (broken (isBytes (r .keyid)) (slotAt vs 3) || broken (isBytes (r .ad)) (slotAt vs 4))
+    ∷ row 13 (writtenOut (r .m) (slotAt vs 0) || writtenOut (r .t) (slotAt vs 1) || writtenOut (r .p) (slotAt vs 2))
+    ∷ []
+
+-- the first row that applies; and where none does, the numbers read
+pub record Judged (rows : List Row) (r : Profile) (vs : List Slot) (j : Judgement) : Type 0 where
+  pub number-is : j .number ≡ firstOf rows
+  pub m-is : firstOf rows ≡ 0 → j .m ≡ readNumber (r .m) (slotAt vs 0)
+  pub t-is : firstOf rows ≡ 0 → j .t ≡ readNumber (r .t) (slotAt vs 1)
+  pub p-is : firstOf rows ≡ 0 → j .p ≡ readNumber (r .p) (slotAt vs 2)
+
+-- ---- one reading
+
+-- the text of a byte string in what was read
+abbrev pub chosenText : List ℕ → Whole → ByteString → List ℕ
+chosenText s w Keyid = textOf (slotIn (partAt s (w .places .params)) (w .values .keyid))
+chosenText s w Data = textOf (slotIn (partAt s (w .places .params)) (w .values .ad))
+chosenText s w Salt = textOf (slotIn s (w .places .salt))
+chosenText s w Output = textOf (slotIn s (w .places .output))
+
+-- the reader's answer; and where it accepts, the texts of the four byte strings
+pub record WholeIs (s : List ℕ) (w : Whole) : Type 0 where
+  pub reading-is : w .reading ≡ reading editionTwo s
+  pub texts : w .reading .number ≡ 0 → (c : ByteString)
+      → (canonical (chosenText s w c) ≡ true) × (decode (chosenText s w c) ≡ chosen c (fieldsOf editionTwo s))

@@ -1,0 +1,61 @@
+// One byte string: its rule over the span of its text. Sizes are in bytes, lengths of texts in characters.
+use crate::limits::BytesRule;
+use grammar::b64::is_canonical;
+use grammar::parts::part;
+use grammar::pieces::Span;
+use grammar::units::Bytes;
+use grammar::units::Chars;
+use grammar::units::decoded_len;
+ghost use Prim.Native.Nat.{ℕ};
+ghost use mathlib.Core.Path.{_≡_};
+ghost use mathlib.Core.List.{List};
+ghost use Rattle.grammar.specs.Text.{broken};
+ghost use Rattle.profile.specs.Limits.{isSize};
+ghost use Rattle.profile.specs.Fields.{isSized, isBytes, misplacedBytes};
+ghost use Rattle.profile.specs.ReaderSteps.{slotIn};
+
+pub fn is_size(rule: BytesRule, size: Bytes) -> bool
+    ensures { λ r. ⌜ r ≡ isSize rule (size .0) ⌝ }
+{
+    match rule {
+        BytesRule::Sized { low, high } => {
+            let n = size.0;
+            low.0 <= n && n <= high.0
+        }
+        BytesRule::Barred => false,
+    }
+}
+
+// There where it is no parameter. The text doesn't matter.
+pub fn misplaced_bytes(rule: BytesRule, span: Span) -> bool
+    ensures { λ r. ⌜ ((t : List ℕ) → r ≡ misplacedBytes rule (slotIn t span)) ⌝ }
+{
+    match rule {
+        BytesRule::Sized { low: _, high: _ } => false,
+        BytesRule::Barred => span.at != 0,
+    }
+}
+
+// Of a permitted size, if there.
+pub fn bad_size(rule: BytesRule, t: &[u8], span: Span) -> bool
+    ensures { λ r. ⌜ r ≡ broken (isSized rule) (slotIn (now (t .entry)) span) ⌝ }
+{
+    if span.at == 0 {
+        return false;
+    }
+    let text = part(t, span);
+    !is_size(rule, decoded_len(Chars(text.len())))
+}
+
+// Canonical, and of a permitted size, if there.
+pub fn bad_bytes(rule: BytesRule, t: &[u8], span: Span) -> bool
+    ensures { λ r. ⌜ r ≡ broken (isBytes rule) (slotIn (now (t .entry)) span) ⌝ }
+{
+    if span.at == 0 {
+        return false;
+    }
+    if !is_canonical(part(t, span)) {
+        return true;
+    }
+    bad_size(rule, t, span)
+}

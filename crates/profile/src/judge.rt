@@ -1,0 +1,205 @@
+// Rows 8 to 15, over the id's number, the version, the values of the names, the salt and the output.
+use crate::bytes_field::bad_bytes;
+use crate::bytes_field::bad_size;
+use crate::bytes_field::misplaced_bytes;
+use crate::fields::Version;
+use crate::limits::Limits;
+use crate::limits::limits_of;
+use crate::limits::version_allowed;
+use crate::number_field::misplaced_number;
+use crate::number_field::read_number;
+use crate::number_field::written_out;
+use crate::values::Values;
+use grammar::pieces::Span;
+ghost use Prim.Native.Nat.{ℕ};
+ghost use mathlib.Core.Path.{_≡_};
+ghost use mathlib.Core.Bool.{false};
+ghost use mathlib.Core.List.{List};
+ghost use Rattle.grammar.specs.Rules.{firstOf};
+ghost use Rattle.profile.specs.Limits.{Profile, profileOf, limitsOf, editionTwo};
+ghost use Rattle.profile.specs.Reader.{misplaced, rowsFor};
+ghost use Rattle.profile.specs.ReaderSteps.{slotIn, slotsIn, spellingRows, NumbersAre, Judged};
+
+// The three numbers as they stand in the parameters, and whether row 11 applies to them.
+pub struct Numbers {
+    pub bad: bool,
+    pub m: u32,
+    pub t: u32,
+    pub p: u32,
+}
+
+// What the judge gives: the number of the row, 0 where none applies, and the numbers read.
+pub struct Judgement {
+    pub number: u8,
+    pub m: u32,
+    pub t: u32,
+    pub p: u32,
+}
+
+// Names missing or unknown to the profile.
+fn is_misplaced(limits: Limits, values: Values) -> bool
+    ensures { λ r. ⌜ ((e : Profile) (t : List ℕ) → limits ≡ limitsOf e → r ≡ misplaced e (slotsIn t values)) ⌝ }
+{
+    let m = limits.m;
+    let m_span = values.m;
+    if misplaced_number(m, m_span) {
+        return true;
+    }
+    let t = limits.t;
+    let t_span = values.t;
+    if misplaced_number(t, t_span) {
+        return true;
+    }
+    let p = limits.p;
+    let p_span = values.p;
+    if misplaced_number(p, p_span) {
+        return true;
+    }
+    let keyid = limits.keyid;
+    let keyid_span = values.keyid;
+    if misplaced_bytes(keyid, keyid_span) {
+        return true;
+    }
+    let ad = limits.ad;
+    let ad_span = values.ad;
+    misplaced_bytes(ad, ad_span)
+}
+
+// m, t and p, none of them misplaced. m < 8p is tested without a product that can wrap.
+fn read_numbers(limits: Limits, params: &[u8], values: Values) -> Numbers
+    requires { ⌜ ((e : Profile) → limits ≡ limitsOf e → misplaced e (slotsIn (now params) values) ≡ false) ⌝ }
+    ensures { λ r. ⌜ ((e : Profile) → limits ≡ limitsOf e → NumbersAre e (slotsIn (now (params .entry)) values) (r .bad) (r .m) (r .t) (r .p)) ⌝ }
+{
+    let m_rule = limits.m;
+    let m_span = values.m;
+    let m = read_number(m_rule, params, m_span);
+    let t_rule = limits.t;
+    let t_span = values.t;
+    let t = read_number(t_rule, params, t_span);
+    let p_rule = limits.p;
+    let p_span = values.p;
+    let p = read_number(p_rule, params, p_span);
+    if !m.good {
+        return Numbers {
+            bad: true,
+            m: m.value,
+            t: t.value,
+            p: p.value,
+        };
+    }
+    if !t.good {
+        return Numbers {
+            bad: true,
+            m: m.value,
+            t: t.value,
+            p: p.value,
+        };
+    }
+    if !p.good {
+        return Numbers {
+            bad: true,
+            m: m.value,
+            t: t.value,
+            p: p.value,
+        };
+    }
+    Numbers {
+        bad: m.value / 8 < p.value,
+        m: m.value,
+        t: t.value,
+        p: p.value,
+    }
+}
+
+fn refused(number: u8) -> Judgement
+    ensures { λ r. ⌜ r ≡ record { number = number; m = 0; t = 0; p = 0 } ⌝ }
+{
+    Judgement {
+        number,
+        m: 0,
+        t: 0,
+        p: 0,
+    }
+}
+
+// Rows 12 and 13.
+fn bytes_and_spelling(limits: Limits, params: &[u8], values: Values, n: Numbers) -> u8
+    requires { ⌜ ((e : Profile) → limits ≡ limitsOf e → NumbersAre e (slotsIn (now params) values) (n .bad) (n .m) (n .t) (n .p)) ⌝ }
+    ensures { λ r. ⌜ ((e : Profile) → limits ≡ limitsOf e → r ≡ firstOf (spellingRows e (slotsIn (now (params .entry)) values))) ⌝ }
+{
+    let keyid = limits.keyid;
+    let keyid_span = values.keyid;
+    if bad_bytes(keyid, params, keyid_span) {
+        return 12;
+    }
+    let ad = limits.ad;
+    let ad_span = values.ad;
+    if bad_bytes(ad, params, ad_span) {
+        return 12;
+    }
+    let m = limits.m;
+    let m_span = values.m;
+    if written_out(m, m_span, n.m) {
+        return 13;
+    }
+    let t = limits.t;
+    let t_span = values.t;
+    if written_out(t, t_span, n.t) {
+        return 13;
+    }
+    let p = limits.p;
+    let p_span = values.p;
+    if written_out(p, p_span, n.p) {
+        return 13;
+    }
+    0
+}
+
+// Rows 8 to 15: the first that applies.
+pub fn judge(
+    id: u8,
+    version: Version,
+    params: &[u8],
+    values: Values,
+    s: &[u8],
+    salt: Span,
+    output: Span,
+) -> Judgement
+    ensures { λ r. ⌜ Judged (rowsFor editionTwo id version (slotsIn (now (params .entry)) values) (values .strange) (slotIn (now (s .entry)) salt) (slotIn (now (s .entry)) output)) (profileOf editionTwo id) (slotsIn (now (params .entry)) values) r ⌝ }
+{
+    if id == 0 {
+        return refused(8);
+    }
+    if !version_allowed(id, version) {
+        return refused(9);
+    }
+    let limits = limits_of(id);
+    if values.strange {
+        return refused(10);
+    }
+    if is_misplaced(limits, values) {
+        return refused(10);
+    }
+    let n = read_numbers(limits, params, values);
+    if n.bad {
+        return refused(11);
+    }
+    let number = bytes_and_spelling(limits, params, values, n);
+    if number != 0 {
+        return refused(number);
+    }
+    let salt_rule = limits.salt;
+    if bad_bytes(salt_rule, s, salt) {
+        return refused(14);
+    }
+    let output_rule = limits.output;
+    if bad_size(output_rule, s, output) {
+        return refused(15);
+    }
+    Judgement {
+        number: 0,
+        m: n.m,
+        t: n.t,
+        p: n.p,
+    }
+}

@@ -1,0 +1,134 @@
+// One number parameter: its rule over the span of its value.
+use crate::limits::NumberRule;
+use grammar::decimal::Limited;
+use grammar::decimal::read_within;
+use grammar::parts::part;
+use grammar::pieces::Span;
+ghost use Prim.Native.Nat.{ℕ};
+ghost use mathlib.Core.Path.{_≡_};
+ghost use mathlib.Core.Bool.{false, not};
+ghost use mathlib.Core.Option.{none};
+ghost use mathlib.Core.List.{List};
+ghost use Rattle.grammar.specs.Text.{broken};
+ghost use Rattle.grammar.specs.Numerals.{limitedValue};
+ghost use Rattle.profile.specs.Limits.{lowest, highest};
+ghost use Rattle.profile.specs.Fields.{numberText, isNumber, misplacedNumber, readNumber, writtenOut};
+ghost use Rattle.profile.specs.ReaderSteps.{slotIn};
+
+// What was read: whether the value keeps its rule, and the number.
+pub struct Number {
+    pub good: bool,
+    pub value: u32,
+}
+
+fn lowest_of(rule: NumberRule) -> u32
+    ensures { λ r. ⌜ r ≡ lowest rule ⌝ }
+{
+    match rule {
+        NumberRule::Needed { low, high: _ } => low,
+        NumberRule::Omitted {
+            low,
+            high: _,
+            given: _,
+        } => low,
+        NumberRule::Fixed { given } => given,
+    }
+}
+
+fn highest_of(rule: NumberRule) -> u32
+    ensures { λ r. ⌜ r ≡ highest rule ⌝ }
+{
+    match rule {
+        NumberRule::Needed { low: _, high } => high,
+        NumberRule::Omitted {
+            low: _,
+            high,
+            given: _,
+        } => high,
+        NumberRule::Fixed { given } => given,
+    }
+}
+
+// Missing where it is needed, or there where it is no parameter. The text doesn't matter.
+pub fn misplaced_number(rule: NumberRule, span: Span) -> bool
+    ensures { λ r. ⌜ ((t : List ℕ) → r ≡ misplacedNumber rule (slotIn t span)) ⌝ }
+{
+    match rule {
+        NumberRule::Needed { low: _, high: _ } => span.at == 0,
+        NumberRule::Omitted {
+            low: _,
+            high: _,
+            given: _,
+        } => false,
+        NumberRule::Fixed { given: _ } => span.at != 0,
+    }
+}
+
+// The number that stands for one that is left out.
+fn unwritten(rule: NumberRule) -> u32
+    ensures { λ r. ⌜ r ≡ readNumber rule none ⌝ }
+{
+    match rule {
+        NumberRule::Needed { low: _, high: _ } => 0,
+        NumberRule::Omitted {
+            low: _,
+            high: _,
+            given,
+        } => given,
+        NumberRule::Fixed { given } => given,
+    }
+}
+
+// The text of a value, read by its rule.
+fn written(rule: NumberRule, text: &[u8]) -> Number
+    ensures { λ r. ⌜ (r .good ≡ isNumber rule (now (text .entry))) × (r .value ≡ limitedValue (numberText rule (now (text .entry)))) ⌝ }
+{
+    match read_within(text, lowest_of(rule) as u64, highest_of(rule) as u64) {
+        Limited::Malformed => Number {
+            good: false,
+            value: 0,
+        },
+        Limited::Outside => Number {
+            good: false,
+            value: 0,
+        },
+        Limited::Value(n) => Number {
+            good: true,
+            value: n as u32,
+        },
+    }
+}
+
+// A number parameter that is not misplaced.
+pub fn read_number(rule: NumberRule, t: &[u8], span: Span) -> Number
+    requires { ⌜ misplacedNumber rule (slotIn (now t) span) ≡ false ⌝ }
+    ensures { λ r. ⌜ (r .good ≡ not (broken (isNumber rule) (slotIn (now (t .entry)) span))) × (r .value ≡ readNumber rule (slotIn (now (t .entry)) span)) ⌝ }
+{
+    if span.at == 0 {
+        return Number {
+            good: true,
+            value: unwritten(rule),
+        };
+    }
+    written(rule, part(t, span))
+}
+
+// Written out, though it is what an omitted one means.
+pub fn written_out(rule: NumberRule, span: Span, value: u32) -> bool
+    ensures { λ r. ⌜ ((t : List ℕ) → value ≡ readNumber rule (slotIn t span) → r ≡ writtenOut rule (slotIn t span)) ⌝ }
+{
+    match rule {
+        NumberRule::Needed { low: _, high: _ } => false,
+        NumberRule::Omitted {
+            low: _,
+            high: _,
+            given,
+        } => {
+            if span.at == 0 {
+                return false;
+            }
+            value == given
+        }
+        NumberRule::Fixed { given: _ } => false,
+    }
+}

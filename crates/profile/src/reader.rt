@@ -1,0 +1,239 @@
+// The profile reader: kind and number fields of a string, or the number of the row that refuses it; and the byte-string entry.
+use crate::fields::ByteString;
+use crate::fields::Fields;
+use crate::fields::Meaning;
+use crate::fields::Reading;
+use crate::fields::Version;
+use crate::ids::id_number;
+use crate::judge::judge;
+use crate::values::Values;
+use crate::values::no_values;
+use crate::values::values_in;
+use grammar::b64::decode;
+use grammar::decimal::Limited;
+use grammar::decimal::read_within;
+use grammar::parts::part;
+use grammar::pieces::Places;
+use grammar::pieces::Span;
+use grammar::place::Decoded;
+use grammar::units::Bytes;
+ghost use Prim.Native.Nat.{ℕ};
+ghost use mathlib.Core.Path.{_≡_};
+ghost use mathlib.Core.List.{List, []};
+ghost use mathlib.Core.Bool.{true, cond};
+ghost use Rattle.grammar.specs.Text.{all};
+ghost use Rattle.grammar.specs.Place.{outcome};
+ghost use Rattle.grammar.specs.Parts.{textOf};
+ghost use Rattle.grammar.specs.Pieces.{pieces};
+ghost use Rattle.grammar.specs.Items.{items};
+ghost use Rattle.grammar.specs.Rules.{isItem, grammarNumber};
+ghost use Rattle.grammar.specs.Layout.{placesOf};
+ghost use Rattle.profile.specs.Limits.{profileOf, editionTwo};
+ghost use Rattle.profile.specs.Fields.{readVersion};
+ghost use Rattle.profile.specs.Entries.{refusedReading, kindOf, meantVersion, reading, meaning, decoded};
+ghost use Rattle.profile.specs.ReaderSteps.{slotIn, ValuesAre, chosenText, WholeIs};
+
+// The algorithm version that an Argon2 string without a version means.
+const ABSENT_MEANS: u32 = 19;
+
+// All that one reading of a string finds: the answer, where its parameters stand, and the values in them.
+pub struct Whole {
+    pub reading: Reading,
+    pub places: Places,
+    pub values: Values,
+}
+
+fn refused(number: u8) -> Reading
+    ensures { λ r. ⌜ r ≡ refusedReading number ⌝ }
+{
+    Reading {
+        number,
+        kind: 0,
+        fields: Fields {
+            id: 0,
+            version: Version::Absent,
+            m: 0,
+            t: 0,
+            p: 0,
+        },
+    }
+}
+
+// The version of a version piece that keeps its rule, or absent.
+fn version_in(s: &[u8], span: Span) -> Version
+    ensures { λ r. ⌜ r ≡ readVersion (slotIn (now (s .entry)) span) ⌝ }
+{
+    if span.at == 0 {
+        return Version::Absent;
+    }
+    let text = part(s, span);
+    if text.len() < 2 {
+        return Version::Number(0);
+    }
+    match read_within(&text[2..], 0, 4294967295) {
+        Limited::Malformed => Version::Number(0),
+        Limited::Outside => Version::Number(0),
+        Limited::Value(n) => Version::Number(n as u32),
+    }
+}
+
+// 1 a parameter string, 2 a salt string, 3 a hash string.
+fn kind_of(salt: Span, output: Span) -> u8
+    ensures { λ r. ⌜ ((s : List ℕ) → r ≡ kindOf (slotIn s salt) (slotIn s output)) ⌝ }
+{
+    if output.at != 0 {
+        return 3;
+    }
+    if salt.at != 0 {
+        return 2;
+    }
+    1
+}
+
+// The version that a version field means in a profile.
+fn meant_version(id: u8, version: Version) -> u32
+    ensures { λ r. ⌜ r ≡ meantVersion (profileOf editionTwo id) version ⌝ }
+{
+    match version {
+        Version::Absent => {
+            if id < 1 {
+                return 0;
+            }
+            if 3 < id {
+                return 0;
+            }
+            ABSENT_MEANS
+        }
+        Version::Number(n) => n,
+    }
+}
+
+// The values of the parameter piece, where there is one.
+fn values_at(params: &[u8], there: bool) -> Values
+    requires { ⌜ (there ≡ true → all isItem (items (now params)) ≡ true) ⌝ }
+    ensures { λ r. ⌜ ValuesAre (now (params .entry)) (cond there (items (now (params .entry))) []) r ⌝ }
+{
+    if there {
+        return values_in(params);
+    }
+    no_values()
+}
+
+// A string that the grammar accepts, with the places of its pieces.
+fn read_pieces(s: &[u8], places: Places) -> Whole
+    requires { ⌜ (grammarNumber (now s) ≡ 0) × (places ≡ placesOf (pieces (now s))) ⌝ }
+    ensures { λ r. ⌜ WholeIs (now (s .entry)) r ⌝ }
+{
+    let id_span = places.id;
+    let version_span = places.version;
+    let params_span = places.params;
+    let salt = places.salt;
+    let output = places.output;
+    let id = id_number(part(s, id_span));
+    let version = version_in(s, version_span);
+    let params = part(s, params_span);
+    let values = values_at(params, params_span.at != 0);
+    let j = judge(id, version, params, values, s, salt, output);
+    if j.number != 0 {
+        return Whole {
+            reading: refused(j.number),
+            places,
+            values,
+        };
+    }
+    Whole {
+        reading: Reading {
+            number: 0,
+            kind: kind_of(salt, output),
+            fields: Fields {
+                id,
+                version,
+                m: j.m,
+                t: j.t,
+                p: j.p,
+            },
+        },
+        places,
+        values,
+    }
+}
+
+// One reading of any string.
+fn read_whole(s: &[u8]) -> Whole
+    ensures { λ r. ⌜ WholeIs (now (s .entry)) r ⌝ }
+{
+    let layout = grammar::pieces::read(s);
+    let places = layout.places;
+    let number = layout.number;
+    if number != 0 {
+        return Whole {
+            reading: refused(number),
+            places,
+            values: no_values(),
+        };
+    }
+    read_pieces(s, places)
+}
+
+// The profile reader.
+pub fn read(s: &[u8]) -> Reading
+    ensures { λ r. ⌜ r ≡ reading editionTwo (now (s .entry)) ⌝ }
+{
+    let whole = read_whole(s);
+    whole.reading
+}
+
+// The algorithm version that an accepted string means: the one written, or the profile's where none is written.
+pub fn algorithm_version(s: &[u8]) -> Meaning
+    ensures { λ r. ⌜ r ≡ meaning editionTwo (now (s .entry)) ⌝ }
+{
+    let r = read(s);
+    let number = r.number;
+    let fields = r.fields;
+    let version = fields.version;
+    Meaning {
+        number,
+        version: meant_version(fields.id, version),
+    }
+}
+
+// The text at a span; empty where it is not there.
+fn text_at(t: &[u8], span: Span) -> &[u8]
+    ensures { λ r. ⌜ now r ≡ textOf (slotIn (now (t .entry)) span) ⌝ }
+{
+    if span.at == 0 {
+        return &t[0..0];
+    }
+    part(t, span)
+}
+
+// The text of a byte string in what was read.
+fn text_of(s: &[u8], whole: Whole, choice: ByteString) -> &[u8]
+    ensures { λ r. ⌜ now r ≡ chosenText (now (s .entry)) whole choice ⌝ }
+{
+    let places = whole.places;
+    let values = whole.values;
+    let params = places.params;
+    match choice {
+        ByteString::Keyid => text_at(part(s, params), values.keyid),
+        ByteString::Data => text_at(part(s, params), values.ad),
+        ByteString::Salt => text_at(s, places.salt),
+        ByteString::Output => text_at(s, places.output),
+    }
+}
+
+// Decodes one of the four byte strings into `buf` from `at` on; the count is the decoded length, 0 when absent. 1 to 15, then 17.
+pub fn byte_string(s: &[u8], choice: ByteString, buf: &mut [u8], at: usize) -> Decoded
+    ensures { λ r. ⌜ outcome (r .number) (r .count .0) (now (buf .exit)) ≡ decoded editionTwo choice (now (s .entry)) (now (buf .entry)) at ⌝ }
+{
+    let whole = read_whole(s);
+    let reading = whole.reading;
+    let number = reading.number;
+    if number != 0 {
+        return Decoded {
+            number,
+            count: Bytes(0),
+        };
+    }
+    decode(text_of(s, whole, choice), buf, at)
+}

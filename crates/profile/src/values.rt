@@ -1,0 +1,105 @@
+// The values of the five names in a parameter piece, found in one walk: where each stands in the piece.
+use grammar::pieces::Span;
+use grammar::scan::next_at;
+use grammar::scan::same_text;
+use grammar::units::Chars;
+ghost use mathlib.Core.Path.{_≡_};
+ghost use mathlib.Core.Bool.{true};
+ghost use mathlib.Core.List.{List, []};
+ghost use Prim.Native.Nat.{ℕ};
+ghost use Rattle.grammar.specs.Text.{all};
+ghost use Rattle.grammar.specs.Items.{items};
+ghost use Rattle.grammar.specs.Rules.{isItem};
+ghost use Rattle.profile.specs.ReaderSteps.{itemsFrom, ValueStep, ValuesAre};
+
+// A value that is not there has the span 0 and 0. `strange`: items are left that have no name of the five, or not in their order.
+pub struct Values {
+    pub m: Span,
+    pub t: Span,
+    pub p: Span,
+    pub keyid: Span,
+    pub ad: Span,
+    pub strange: bool,
+}
+
+pub struct Step {
+    pub span: Span,
+    pub next: usize,
+}
+
+// The value of the item at the place, if it has the name, and the place of the next item.
+fn take_value(params: &[u8], at: usize, name: &[u8]) -> Step
+    requires { ⌜ all isItem (itemsFrom (now params) at) ≡ true ⌝ }
+    ensures { λ r. ⌜ ValueStep (now (params .entry)) (now (name .entry)) at (r .span) (r .next) ⌝ }
+{
+    let none = Span {
+        at: 0,
+        len: Chars(0),
+    };
+    if params.len() < at {
+        return Step {
+            span: none,
+            next: at,
+        };
+    }
+    let end = next_at(params, at, b',');
+    let equals = next_at(params, at, b'=');
+    if same_text(&params[at..equals], name) {
+        let start = equals + 1;
+        Step {
+            span: Span {
+                at: start,
+                len: Chars(end - start),
+            },
+            next: end + 1,
+        }
+    } else {
+        Step {
+            span: none,
+            next: at,
+        }
+    }
+}
+
+// The values of a parameter piece that keeps its rule.
+pub fn values_in(params: &[u8]) -> Values
+    requires { ⌜ all isItem (items (now params)) ≡ true ⌝ }
+    ensures { λ r. ⌜ ValuesAre (now (params .entry)) (items (now (params .entry))) r ⌝ }
+{
+    let m = take_value(params, 0, b"m");
+    let t = take_value(params, m.next, b"t");
+    let p = take_value(params, t.next, b"p");
+    let keyid = take_value(params, p.next, b"keyid");
+    let ad = take_value(params, keyid.next, b"data");
+    let m_span = m.span;
+    let t_span = t.span;
+    let p_span = p.span;
+    let keyid_span = keyid.span;
+    let ad_span = ad.span;
+    Values {
+        m: m_span,
+        t: t_span,
+        p: p_span,
+        keyid: keyid_span,
+        ad: ad_span,
+        strange: ad.next <= params.len(),
+    }
+}
+
+// The values where there is no parameter piece.
+pub fn no_values() -> Values
+    ensures { λ r. ⌜ ((t : List ℕ) → ValuesAre t [] r) ⌝ }
+{
+    let none = Span {
+        at: 0,
+        len: Chars(0),
+    };
+    Values {
+        m: none,
+        t: none,
+        p: none,
+        keyid: none,
+        ad: none,
+        strange: false,
+    }
+}
