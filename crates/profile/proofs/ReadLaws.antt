@@ -39,30 +39,17 @@ use Rattle.profile.specs.Reader.{names, slots, strangers, slotAt, rowsFo
 use Rattle.profile.specs.Entries.{refusedReading, kindOf, reading, decoded}
 use Rattle.profile.specs.ReaderSteps.{slotIn, slotsIn, ValuesAre, Judged, chosenText, WholeIs}
 use Rattle.profile.proofs.Accepted.{params-all}
+use Rattle.profile.proofs.JudgeLaws.{rows-stop, rows-pass}
 use Rattle.profile.proofs.SlotLaws.{slot-none, slot-some}
-
--- rows that don't apply leave the number to those after them
-first-after : (xs ys : List Row) → Clear xs → firstOf (xs ++ ys) ≡ firstOf ys
-first-after [] ys c = refl
-first-after (x ∷ xs) ys c = rw (c .0) (first-after xs ys (c .1))
 
 pub answer-rows : (e : List Profile) (s : List ℕ) → grammarNumber s ≡ 0 → answer e s ≡ firstOf (profileRows e (pieces s))
 unfolding answer
-answer-rows e s z = first-after (grammarRows s) (profileRows e (pieces s)) (accepted-rows s z)
+answer-rows e s z = rows-pass (grammarRows s) (profileRows e (pieces s)) (accepted-rows s z)
 
 -- the number of a string that the grammar refuses
 pub answer-refused : (e : List Profile) (s : List ℕ) (n : ℕ) → grammarNumber s ≡ n → (n ≡ 0 → ⊥) → answer e s ≡ n
 unfolding answer grammarNumber
-answer-refused e s n q z = first-of (grammarRows s) (profileRows e (pieces s)) n q z
-  where
-    first-of : (xs ys : List Row) (n : ℕ) → firstOf xs ≡ n → (n ≡ 0 → ⊥) → firstOf (xs ++ ys) ≡ n
-    first-of [] ys n q z = absurd (z (sym q))
-    first-of (x ∷ xs) ys n q z = go (x .applies) q (first-of xs ys n)
-      where
-        go : (b : Bool) → cond b (x .number) (firstOf xs) ≡ n → (firstOf xs ≡ n → (n ≡ 0 → ⊥) → firstOf (xs ++ ys) ≡ n)
-            → cond b (x .number) (firstOf (xs ++ ys)) ≡ n
-        go true q r = q
-        go false q r = r q z
+answer-refused e s n q z = rows-stop (grammarRows s) (profileRows e (pieces s)) n (sym q) z
 
 pub reading-refused : (e : List Profile) (s : List ℕ) (n : ℕ) → answer e s ≡ n → (n ≡ 0 → ⊥) → refusedReading n ≡ reading e s
 unfolding reading
@@ -71,9 +58,6 @@ reading-refused e s n q z = rw (q, ne-eqb n 0 z)
 -- ---- the slots at the places of the pieces
 
 module _ (s : List ℕ) (z : grammarNumber s ≡ 0) where
-  abbrev P : Pieces
-  P = pieces s
-
   pub slot-piece : (w : Piece) → slotIn s (spanOf (placesOf (pieces s)) w) ≡ slotOf (pieces s) w
   slot-piece w = go (eqb (v .at) 0) refl
     where
