@@ -11,14 +11,14 @@ use Rattle.grammar.specs.Parts.{partAt}
 use Rattle.grammar.specs.Numerals.{limitedValue}
 use Rattle.grammar.specs.declared.pieces.Span.{Span}
 use Rattle.profile.proofs.SlotLaws.{slot-some}
-use Rattle.profile.specs.Fields.{numberText, isNumber, misplacedNumber, readNumber, writtenOut, misplacedBytes}
+use Rattle.profile.specs.Fields.{numberReading, isNumber, misplacedNumber, readNumber, writtenOut, misplacedBytes}
 use Rattle.profile.specs.ReaderSteps.{slotIn}
 use Rattle.profile.specs.declared.limits.NumberRule.{NumberRule}
 use Rattle.profile.specs.declared.limits.NumberRule.the-variants.{Needed, Omitted, Fixed}
 use Rattle.profile.specs.declared.limits.BytesRule.the-variants.{Barred}
 
 -- a number that is there, and not misplaced
-read-there : (r : NumberRule) (t : List ℕ) → misplacedNumber r (some t) ≡ false → limitedValue (numberText r t) ≡ readNumber r (some t)
+read-there : (r : NumberRule) (t : List ℕ) → misplacedNumber r (some t) ≡ false → limitedValue (numberReading r t) ≡ readNumber r (some t)
 read-there (Needed low high) t h = refl
 read-there (Omitted low high given) t h = refl
 read-there (Fixed given) t h = absurd (true≢false h)
@@ -42,7 +42,7 @@ module _ (s : List ℕ) (w : Span) where
       go false = refl
 
   pub number-there : (r : NumberRule) → (w .at ≡ 0 → ⊥) → misplacedNumber r (slotIn s w) ≡ false
-      → (isNumber r (partAt s w) ≡ not (broken (isNumber r) (slotIn s w))) × (limitedValue (numberText r (partAt s w)) ≡ readNumber r (slotIn s w))
+      → (isNumber r (partAt s w) ≡ not (broken (isNumber r) (slotIn s w))) × (limitedValue (numberReading r (partAt s w)) ≡ readNumber r (slotIn s w))
   number-there r z h = rw (slot-some s w z) (sym (Bool·not-not (isNumber r (partAt s w))), read-there r (partAt s w) (rw (slot-some s w z) at h))
 
   pub omitted-there : (r : NumberRule) (low high given value : ℕ) → r ≡ Omitted low high given → (w .at ≡ 0 → ⊥)

@@ -14,8 +14,8 @@ use Rattle.grammar.proofs.Tests.{neither, is-true, is-false}
 use Rattle.grammar.proofs.Rows.{Clear}
 use Rattle.profile.specs.Limits.{Profile, nobody, limitsOf}
 use Rattle.profile.specs.Fields.{isNumber, misplacedNumber, readNumber, misplacedBytes}
-use Rattle.profile.specs.Reader.{slotAt, misplaced, badNumbers}
-use Rattle.profile.specs.ReaderSteps.{NumbersAre, spellingRows, Judged}
+use Rattle.profile.specs.Reader.{slotAt, misplaced, badNumbers, spellingRows}
+use Rattle.profile.specs.ReaderSteps.{NumbersAre, Judged}
 use Rattle.profile.specs.declared.judge.Judgement.{Judgement}
 use Rattle.profile.specs.declared.limits.Limits.{Limits}
 use Rattle.profile.specs.declared.limits.NumberRule.{NumberRule}

@@ -40,12 +40,12 @@ chosen Output f = f .output
 
 -- ---- one number; the slot is its value's text, where there is one
 
-abbrev pub numberText : NumberRule → List ℕ → Limited
-numberText r t = limitedReading (lowest r) (highest r) t
+abbrev pub numberReading : NumberRule → List ℕ → Limited
+numberReading r t = limitedReading (lowest r) (highest r) t
 
 -- a permitted decimal, in range
 abbrev pub isNumber : NumberRule → List ℕ → Bool
-isNumber r t = eqb (limitedNumber (numberText r t)) 0
+isNumber r t = eqb (limitedNumber (numberReading r t)) 0
 
 -- missing where it is needed, or there where it is no parameter
 abbrev pub misplacedNumber : NumberRule → Slot → Bool

@@ -57,6 +57,13 @@ badNumbers r vs =
     || broken (isNumber (r .p)) (slotAt vs 2)
     || ltb (readNumber (r .m) (slotAt vs 0)) (8 * readNumber (r .p) (slotAt vs 2))
 
+-- keyid and data, then a number written out
+abbrev pub spellingRows : Profile → List Slot → List Row
+spellingRows r vs =
+    row 12 (broken (isBytes (r .keyid)) (slotAt vs 3) || broken (isBytes (r .ad)) (slotAt vs 4))
+    ∷ row 13 (writtenOut (r .m) (slotAt vs 0) || writtenOut (r .t) (slotAt vs 1) || writtenOut (r .p) (slotAt vs 2))
+    ∷ []
+
 -- for the id's number k, the version, the values of the names, whether items are left, the salt and the output
 abbrev pub rowsFor : List Profile → ℕ → Version → List Slot → Bool → Slot → Slot → List Row
 rowsFor e k v vs strange salt output =
@@ -65,11 +72,10 @@ rowsFor e k v vs strange salt output =
     ∷ row 9 (not (versionAllowed r v))
     ∷ row 10 (strange || misplaced r vs)
     ∷ row 11 (badNumbers r vs)
-    ∷ row 12 (broken (isBytes (r .keyid)) (slotAt vs 3) || broken (isBytes (r .ad)) (slotAt vs 4))
-    ∷ row 13 (writtenOut (r .m) (slotAt vs 0) || writtenOut (r .t) (slotAt vs 1) || writtenOut (r .p) (slotAt vs 2))
-    ∷ row 14 (broken (isBytes (r .salt)) salt)
+    ∷ (spellingRows r vs
+    ++ (row 14 (broken (isBytes (r .salt)) salt)
     ∷ row 15 (broken (isSized (r .output)) output)
-    ∷ []
+    ∷ []))
 
 abbrev pub profileRows : List Profile → Pieces → List Row
 profileRows e p =

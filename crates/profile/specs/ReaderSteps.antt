@@ -54,13 +54,6 @@ pub record NumbersAre (r : Profile) (vs : List Slot) (bad : Bool) (m t p : ℕ) 
   pub t-is : t ≡ readNumber (r .t) (slotAt vs 1)
   pub p-is : p ≡ readNumber (r .p) (slotAt vs 2)
 
--- rows 12 and 13
-abbrev pub spellingRows : Profile → List Slot → List Row
-spellingRows r vs =
-    row 12 (broken (isBytes (r .keyid)) (slotAt vs 3) || broken (isBytes (r .ad)) (slotAt vs 4))
-    ∷ row 13 (writtenOut (r .m) (slotAt vs 0) || writtenOut (r .t) (slotAt vs 1) || writtenOut (r .p) (slotAt vs 2))
-    ∷ []
-
 -- the first row that applies; and where none does, the numbers read
 pub record Judged (rows : List Row) (r : Profile) (vs : List Slot) (j : Judgement) : Type 0 where
   pub number-is : j .number ≡ firstOf rows

@@ -17,8 +17,8 @@ ghost use mathlib.Core.Bool.{false};
 ghost use mathlib.Core.List.{List};
 ghost use Rattle.grammar.specs.Rules.{firstOf};
 ghost use Rattle.profile.specs.Limits.{Profile, profileOf, limitsOf, editionTwo};
-ghost use Rattle.profile.specs.Reader.{misplaced, rowsFor};
-ghost use Rattle.profile.specs.ReaderSteps.{slotIn, slotsIn, spellingRows, NumbersAre, Judged};
+ghost use Rattle.profile.specs.Reader.{misplaced, rowsFor, spellingRows};
+ghost use Rattle.profile.specs.ReaderSteps.{slotIn, slotsIn, NumbersAre, Judged};
 
 // The three numbers as they stand in the parameters, and whether row 11 applies to them.
 pub struct Numbers {

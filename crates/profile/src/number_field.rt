@@ -12,7 +12,7 @@ ghost use mathlib.Core.List.{List};
 ghost use Rattle.grammar.specs.Text.{broken};
 ghost use Rattle.grammar.specs.Numerals.{limitedValue};
 ghost use Rattle.profile.specs.Limits.{lowest, highest};
-ghost use Rattle.profile.specs.Fields.{numberText, isNumber, misplacedNumber, readNumber, writtenOut};
+ghost use Rattle.profile.specs.Fields.{numberReading, isNumber, misplacedNumber, readNumber, writtenOut};
 ghost use Rattle.profile.specs.ReaderSteps.{slotIn};
 
 // What was read: whether the value keeps its rule, and the number.
@@ -65,7 +65,7 @@ pub fn misplaced_number(rule: NumberRule, span: Span) -> bool
 }
 
 // The number that stands for one that is left out.
-fn unwritten(rule: NumberRule) -> u32
+fn given_of(rule: NumberRule) -> u32
     ensures { λ r. ⌜ r ≡ readNumber rule none ⌝ }
 {
     match rule {
@@ -81,7 +81,7 @@ fn unwritten(rule: NumberRule) -> u32
 
 // The text of a value, read by its rule.
 fn written(rule: NumberRule, text: &[u8]) -> Number
-    ensures { λ r. ⌜ (r .good ≡ isNumber rule (now (text .entry))) × (r .value ≡ limitedValue (numberText rule (now (text .entry)))) ⌝ }
+    ensures { λ r. ⌜ (r .good ≡ isNumber rule (now (text .entry))) × (r .value ≡ limitedValue (numberReading rule (now (text .entry)))) ⌝ }
 {
     match read_within(text, lowest_of(rule) as u64, highest_of(rule) as u64) {
         Limited::Malformed => Number {
@@ -107,7 +107,7 @@ pub fn read_number(rule: NumberRule, t: &[u8], span: Span) -> Number
     if span.at == 0 {
         return Number {
             good: true,
-            value: unwritten(rule),
+            value: given_of(rule),
         };
     }
     written(rule, part(t, span))

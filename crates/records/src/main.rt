@@ -1,5 +1,5 @@
 // Known answers of the profile reader: a string on each line of standard input, and on standard output all that the entries give for it,
-// parted by tabs. The stored output is an independent reading of document 01.
+// parted by tabs. The stored output was worked out from document 01 apart from this code.
 use grammar::scan::next_at;
 use libc::STDIN_FILENO;
 use libc::STDOUT_FILENO;

@@ -10,8 +10,8 @@ use Rattle.grammar.specs.Pieces.{Slot}
 use Rattle.grammar.specs.Rules.{row, firstOf}
 use Rattle.profile.specs.Limits.{Profile}
 use Rattle.profile.specs.Fields.{isBytes, writtenOut}
-use Rattle.profile.specs.Reader.{slotAt}
-use Rattle.profile.specs.ReaderSteps.{slotsIn, NumbersAre, spellingRows}
+use Rattle.profile.specs.Reader.{slotAt, spellingRows}
+use Rattle.profile.specs.ReaderSteps.{slotsIn, NumbersAre}
 use Rattle.profile.proofs.JudgeLaws.{entryOf, spelling-by}
 use Rattle.profile.proofs.judge.bytes_and_spelling.Statement.{statement}
 use Rattle.profile.proofs.judge.bytes_and_spelling.Tie as tie

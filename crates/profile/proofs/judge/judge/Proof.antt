@@ -13,8 +13,8 @@ use Rattle.grammar.specs.Rules.{Row, firstOf}
 use Rattle.grammar.proofs.Rows.{clear}
 use Rattle.profile.specs.Limits.{Profile, profileOf, editionTwo}
 use Rattle.profile.specs.Fields.{isSized, isBytes}
-use Rattle.profile.specs.Reader.{misplaced, rowsFor}
-use Rattle.profile.specs.ReaderSteps.{slotIn, slotsIn, NumbersAre, spellingRows, Judged}
+use Rattle.profile.specs.Reader.{misplaced, rowsFor, spellingRows}
+use Rattle.profile.specs.ReaderSteps.{slotIn, slotsIn, NumbersAre, Judged}
 use Rattle.profile.specs.declared.judge.Judgement.{Judgement}
 use Rattle.profile.specs.declared.limits.Limits.{Limits}
 use Rattle.profile.proofs.JudgeLaws.{rows-stop, rows-pass, judged-refused, judged-accepted}

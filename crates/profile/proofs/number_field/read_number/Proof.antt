@@ -5,19 +5,19 @@ use mathlib.Core.Path.{refl, _∙_, ap}
 use mathlib.Core.List.{List}
 use denote.Ref.{now}
 use Rattle.grammar.specs.Numerals.{limitedValue}
-use Rattle.profile.specs.Fields.{numberText, isNumber}
+use Rattle.profile.specs.Fields.{numberReading, isNumber}
 use Rattle.profile.proofs.FieldLaws.{number-there}
 use Rattle.profile.proofs.SlotLaws.{slot-none}
 use Rattle.profile.proofs.number_field.read_number.Statement.{statement}
 use Rattle.profile.proofs.number_field.read_number.Tie as tie
 
-unwritten-requires : tie.Need-unwritten-requires
-unwritten-requires c κs = search needs
+given-of-requires : tie.Need-given-of-requires
+given-of-requires c κs = search needs
 
 returns : tie.Need-returns
 returns c =
     let a = c .before .before .before .before .args in
-    rw (slot-none (now (a .t)) (a .span) (c .before .if1 .taken)) (refl, c .unwritten .ensures)
+    rw (slot-none (now (a .t)) (a .span) (c .before .if1 .taken)) (refl, c .given-of .ensures)
 
 part-requires : tie.Need-part-requires
 part-requires c κs = search needs
@@ -31,9 +31,9 @@ returns-2 c =
     let a = f .before .before .before in
     let n = number-there (now (a .args .t)) (a .args .span) (a .args .rule) (f .if1 .left) (a .pre) in (
       c .written .ensures .0 ∙ ap (isNumber (a .args .rule)) (c .before .part .ensures) ∙ n .0,
-      c .written .ensures .1 ∙ ap (λ (t : List ℕ). limitedValue (numberText (a .args .rule) t)) (c .before .part .ensures) ∙ n .1,
+      c .written .ensures .1 ∙ ap (λ (t : List ℕ). limitedValue (numberReading (a .args .rule) t)) (c .before .part .ensures) ∙ n .1,
     )
 
 pub read-number-spec : {M : Type 1} → statement M
 read-number-spec =
-    tie.close (tie.spec unwritten-requires returns part-requires written-requires returns-2)
+    tie.close (tie.spec given-of-requires returns part-requires written-requires returns-2)

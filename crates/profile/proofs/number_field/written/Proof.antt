@@ -4,7 +4,7 @@ use mathlib.Core.Path.{_≡_, refl, sym, _∙_}
 use native.Mathlib.Omega.{arith}
 use denote.Ref.{now}
 use Rattle.grammar.proofs.NumeralLaws.{digits-limited}
-use Rattle.profile.specs.Fields.{numberText}
+use Rattle.profile.specs.Fields.{numberReading}
 use Rattle.profile.proofs.number_field.written.Statement.{statement}
 use Rattle.profile.proofs.number_field.written.Tie as tie
 
@@ -24,7 +24,7 @@ read-within-requires : tie.Need-read-within-requires
 read-within-requires c κs = search needs
 
 -- the reading, as the rule has it
-reading : (k : tie.After-read-within) → numberText (k .before .before .before .before .args .rule) (now (k .before .before .before .before .args .text)) ≡ k .read-within .result
+reading : (k : tie.After-read-within) → numberReading (k .before .before .before .before .args .rule) (now (k .before .before .before .before .args .text)) ≡ k .read-within .result
 reading k = rw (← k .before .before .lowest-of .ensures, ← k .before .highest-of .ensures) (sym (k .read-within .ensures))
 
 enum-told : tie.Need-enum-told
