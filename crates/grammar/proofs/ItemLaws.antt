@@ -9,13 +9,12 @@ use native.Mathlib.Omega.{arith}
 use borrow.Author.Tests.{le-leb, lt-leb}
 use lib.Dec.{leb, eqb}
 use lib.ListN.{length, getD, take, drop}
-use Rattle.grammar.specs.Text.{text, within, all, has, same, empty, Parts, find, split, join, cut}
+use Rattle.grammar.specs.Text.{text, within, all, has, same, empty, Parts, find, split, join, cut, partsFrom}
 use Rattle.grammar.specs.Bytes.{isNameByte, isValueByte, isText}
 use Rattle.grammar.specs.Pieces.{Slot}
 use Rattle.grammar.specs.Items.{Item, itemText, items, itemsOf, paramsText}
 use Rattle.grammar.specs.Limits.{mostItems}
 use Rattle.grammar.specs.Rules.{isName, isValue, isItem, isParams}
-use Rattle.grammar.specs.SortingSteps.{partsFrom}
 use Rattle.grammar.proofs.Tests.{both}
 use Rattle.grammar.specs.Claims.{Frees}
 use Rattle.grammar.proofs.Lists.{not-in, has-append, join-split, split-join, cut-join, join-cut}

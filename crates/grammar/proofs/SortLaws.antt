@@ -9,11 +9,11 @@ use borrow.Author.Tests.{le-leb}
 use lib.Dec.{leb, eqb}
 use lib.ListN.{length, getD, take, drop, length-drop}
 use lib.Seq.{length-take-le}
-use Rattle.grammar.specs.Text.{find, empty, split, parts, headIf, tailIf}
+use Rattle.grammar.specs.Text.{find, empty, split, parts, headIf, tailIf, partsFrom}
 use Rattle.grammar.specs.Pieces.{isVersionPiece, belongs, afterFirst, pieces}
 use Rattle.grammar.specs.Rules.{starts}
 use Rattle.grammar.specs.Layout.{span, spanFrom, past}
-use Rattle.grammar.specs.SortingSteps.{partsFrom, Stepped, sortedOf}
+use Rattle.grammar.specs.SortingSteps.{Stepped, sortedOf}
 use Rattle.grammar.specs.declared.pieces.Piece.{Piece}
 use Rattle.grammar.specs.declared.pieces.Piece.the-variants.{Id, Version, Params, Salt, Output}
 use Rattle.grammar.specs.declared.pieces.Span.{Span}

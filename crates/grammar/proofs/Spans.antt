@@ -10,12 +10,11 @@ use borrow.Author.Tests.{le-leb, leb-true, leb-false}
 use lib.Dec.{leb}
 use lib.ListN.{length, take, drop, length-drop}
 use lib.Seq.{length-take-le}
-use Rattle.grammar.specs.Text.{find, split, headIf, tailIf, listOf}
+use Rattle.grammar.specs.Text.{find, split, headIf, tailIf, listOf, partsFrom}
 use Rattle.grammar.specs.Pieces.{Slot, belongs, afterFirst, pieces, slotOf}
 use Rattle.grammar.specs.Rules.{starts}
 use Rattle.grammar.specs.Layout.{span, spanFrom, past, placesOf, spanOf}
 use Rattle.grammar.specs.Parts.{partAt}
-use Rattle.grammar.specs.SortingSteps.{partsFrom}
 use Rattle.grammar.specs.declared.pieces.Piece.{Piece}
 use Rattle.grammar.specs.declared.pieces.Piece.the-variants.{Id, Version, Params, Salt, Output}
 use Rattle.grammar.specs.declared.pieces.Span.{Span}

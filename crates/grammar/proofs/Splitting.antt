@@ -11,8 +11,7 @@ use borrow.Author.Tests.{le-leb, lt-leb, leb-true, leb-false, lt-ltb, le-ltb, lt
 use lib.Dec.{leb, ltb, eqb, leb·zero, leb·suc-suc}
 use lib.ListN.{length, take, drop, getD, length-drop}
 use lib.Seq.{drop-drop}
-use Rattle.grammar.specs.Text.{has, find, empty, putByte, split, parts, cutByte, cut}
-use Rattle.grammar.specs.SortingSteps.{partsFrom}
+use Rattle.grammar.specs.Text.{has, find, empty, putByte, split, parts, cutByte, cut, partsFrom}
 use Rattle.grammar.proofs.Writing.{leb-sub}
 
 -- ---- the parts from a place on: the first, and those after its separator

@@ -2,20 +2,14 @@
 -- Assumes nothing.
 use Prim.Native.Nat.{ℕ}
 use mathlib.Core.Path.{_≡_}
-use mathlib.Core.Bool.{not, cond}
-use mathlib.Core.List.{List, []}
-use lib.Dec.{leb}
-use lib.ListN.{length, drop}
-use Rattle.grammar.specs.Text.{empty, parts, headIf, tailIf}
+use mathlib.Core.Bool.{not}
+use mathlib.Core.List.{List}
+use Rattle.grammar.specs.Text.{partsFrom, empty, headIf, tailIf}
 use Rattle.grammar.specs.Pieces.{Slot, Pieces, belongs}
 use Rattle.grammar.specs.Layout.{spanFrom, past, placesOf}
 use Rattle.grammar.specs.declared.pieces.Piece.{Piece}
 use Rattle.grammar.specs.declared.pieces.Span.{Span}
 use Rattle.grammar.specs.declared.sorting.Sorted.{Sorted}
-
--- the parts between the separators from a place on; none past the end
-unfoldable pub partsFrom : ℕ → List ℕ → ℕ → List (List ℕ)
-partsFrom d s at = cond (leb at (length s)) (parts d (drop at s)) []
 
 -- the piece asked for, if it is the next
 abbrev pub nextSlot : List ℕ → Piece → ℕ → Slot

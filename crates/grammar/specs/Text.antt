@@ -7,7 +7,7 @@ use mathlib.Core.Bool.{Bool, true, false, not, cond, _&&_, _||_}
 use mathlib.Core.List.{List, [], _∷_, _++_}
 use mathlib.Core.Option.{Option, none, some}
 use lib.Dec.{leb, eqb}
-use lib.ListN.{drop}
+use lib.ListN.{length, drop}
 
 -- the bytes of a text of ASCII characters
 abbrev pub text : String → List ℕ
@@ -61,6 +61,10 @@ split d (c ∷ cs) = putByte (eqb c d) c (split d cs)
 -- the same as one list
 abbrev pub parts : ℕ → List ℕ → List (List ℕ)
 parts d s = split d s .0 ∷ split d s .1
+
+-- the parts between the separators from a place on; none past the end
+unfoldable pub partsFrom : ℕ → List ℕ → ℕ → List (List ℕ)
+partsFrom d s at = cond (leb at (length s)) (parts d (drop at s)) []
 
 -- the parts with d between each two
 abbrev pub join : ℕ → List ℕ → List (List ℕ) → List ℕ

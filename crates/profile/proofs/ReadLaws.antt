@@ -2,7 +2,7 @@
 -- Assumes nothing.
 use Prim.Native.Nat.{ℕ}
 use mathlib.Core.Bool.{Bool, true, false, not, cond}
-use mathlib.Core.List.{List, [], _∷_, _++_}
+use mathlib.Core.List.{List, []}
 use mathlib.Core.Option.{none, some}
 use mathlib.Core.Path.{_≡_, refl, sym, _∙_, ap}
 use native.Mathlib.Omega.{arith}
@@ -12,9 +12,9 @@ use borrow.Author.Tests.{eqb-true, eqb-false, ne-eqb}
 use Rattle.grammar.specs.Text.{within, all, empty, broken}
 use Rattle.grammar.specs.Place.{refused, putAfter}
 use Rattle.grammar.specs.B64.{sextet, lowBitsZero, canonical, decode, decodeNumber, decoding}
-use Rattle.grammar.specs.Pieces.{Slot, Pieces, pieces, slotOf}
+use Rattle.grammar.specs.Pieces.{Slot, pieces, slotOf}
 use Rattle.grammar.specs.Items.{Item, items, itemsOf}
-use Rattle.grammar.specs.Rules.{Row, firstOf, isItem, isOutput, grammarRows, grammarNumber}
+use Rattle.grammar.specs.Rules.{firstOf, isItem, isOutput, grammarRows, grammarNumber}
 use Rattle.grammar.specs.Layout.{placesOf, spanOf}
 use Rattle.grammar.specs.Parts.{partAt, textOf}
 use Rattle.grammar.specs.declared.pieces.Piece.{Piece}

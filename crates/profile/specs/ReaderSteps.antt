@@ -2,20 +2,19 @@
 -- Assumes nothing.
 use Prim.Native.Nat.{ℕ}
 use mathlib.Core.Path.{_≡_}
-use mathlib.Core.Bool.{Bool, true, not, cond, _||_}
+use mathlib.Core.Bool.{Bool, true, not, cond}
 use mathlib.Core.List.{List, [], _∷_, map}
 use mathlib.Core.Option.{none, some}
 use lib.Dec.{eqb}
-use Rattle.grammar.specs.Text.{empty, cut, headIf, tailIf, broken}
+use Rattle.grammar.specs.Text.{empty, cut, headIf, tailIf, partsFrom}
 use Rattle.grammar.specs.Pieces.{Slot}
 use Rattle.grammar.specs.Items.{Item}
 use Rattle.grammar.specs.Parts.{partAt, textOf}
-use Rattle.grammar.specs.SortingSteps.{partsFrom}
 use Rattle.grammar.specs.declared.pieces.Span.{Span}
-use Rattle.grammar.specs.Rules.{Row, row, firstOf}
+use Rattle.grammar.specs.Rules.{Row, firstOf}
 use Rattle.grammar.specs.B64.{canonical, decode}
 use Rattle.profile.specs.Limits.{Profile, editionTwo}
-use Rattle.profile.specs.Fields.{chosen, isBytes, readNumber, writtenOut}
+use Rattle.profile.specs.Fields.{chosen, readNumber}
 use Rattle.profile.specs.Reader.{names, named, itemValue, slots, strangers, slotAt, badNumbers, fieldsOf}
 use Rattle.profile.specs.Entries.{reading}
 use Rattle.profile.specs.declared.judge.Judgement.{Judgement}

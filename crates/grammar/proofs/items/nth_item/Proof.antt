@@ -6,8 +6,7 @@ use native.Mathlib.Omega.{arith}
 use borrow.Author.Needs.{needs}
 use denote.Ref.{now}
 use lib.ListN.{length, take, drop, getD}
-use Rattle.grammar.specs.Text.{parts}
-use Rattle.grammar.specs.SortingSteps.{partsFrom}
+use Rattle.grammar.specs.Text.{parts, partsFrom}
 use Rattle.grammar.proofs.Scanning.{find-from-le}
 use Rattle.grammar.proofs.Splitting.{from-to, from-past, from-zero, getD-pred}
 use Rattle.grammar.proofs.items.nth_item.Statement.{statement}
