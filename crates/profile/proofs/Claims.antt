@@ -2,23 +2,26 @@
 -- Assumes nothing.
 use Prim.Native.Nat.{ℕ, _+_, _≤_}
 use mathlib.Core.Bool.{Bool, true, false, not, cond, _||_}
-use mathlib.Core.List.{List}
+use mathlib.Core.List.{List, _++_}
 use mathlib.Core.Path.{_≡_, refl, sym, _∙_, ap}
 use native.Mathlib.Omega.{arith}
 use lib.Dec.{leb, eqb}
-use lib.ListN.{length}
+use lib.ListN.{length, take, drop, replicate, length-append}
 use borrow.Author.Tests.{eqb-true, leb-true, le-leb, lt-leb}
-use Rattle.grammar.specs.Place.{outcome, over, putAfter}
+use Rattle.grammar.specs.Place.{Outcome, outcome, over, putAfter}
 use Rattle.grammar.specs.Pieces.{Pieces, pieces}
 use Rattle.grammar.proofs.Tests.{from-within}
-use Rattle.grammar.proofs.Writing.{put-done, put-clear}
+use Rattle.grammar.proofs.Writing.{put-done, put-clear, over-back}
 use Rattle.profile.specs.Limits.{Profile, lowest, highest, profileOf, editionTwo}
 use Rattle.profile.specs.Fields.{FieldSet, chosen, writeBytes}
 use Rattle.profile.specs.Reader.{answer, fieldsOf}
-use Rattle.profile.specs.Writer.{Permitted, refusal, fieldPieces, formatted}
+use Rattle.profile.specs.Writer.{OfBytes, Permitted, refusal, fieldPieces, formatted}
 use Rattle.profile.specs.Entries.{kindOf, reading, decoded, writing}
-use Rattle.profile.specs.Claims.{Demand3, room, EntriesAgree, Lanes, Lengths}
+use Rattle.profile.specs.Claims.{Demand3, room, WrittenTo, CarrySame, EntriesDemand3, EntriesAgree, Lanes, Lengths}
+use Rattle.profile.specs.declared.fields.ByteString.{ByteString}
+use Rattle.profile.specs.declared.fields.ByteString.the-variants.{Keyid, Data, Salt, Output}
 use Rattle.profile.specs.declared.fields.Reading.{Reading}
+use Rattle.profile.proofs.ReadLaws.{reading-number}
 use Rattle.profile.proofs.Table.{every, at-id, implied, sound, edition-two-sound}
 use Rattle.profile.proofs.Written.{pieces-of, written}
 use Rattle.profile.proofs.Accepted.{accepted}
@@ -39,7 +42,7 @@ demand-3 e ok =
 pub demand-3-two : Demand3 editionTwo
 demand-3-two = demand-3 editionTwo edition-two-sound
 
--- ---- demand 3, of the outcomes
+-- ---- outcomes
 
 -- a number of 0 where bytes were to be written was a number of 0 before
 after-zero : (n : ℕ) (buffer : List ℕ) (at : ℕ) (bytes : List ℕ) → putAfter n buffer at bytes .number ≡ 0 → n ≡ 0
@@ -77,6 +80,81 @@ entries-agree e ok short =
           rw (w .1) (after-done (answer e (formatted e f)) buffer at (chosen c f) (w .0) l);
     }
 
+-- ---- demand 3, of the outcomes
+
+-- what was written at one place of one buffer tells the bytes
+over-same : (buffer : List ℕ) (at : ℕ) (x y : List ℕ) → at ≤ length buffer
+    → outcome 0 (length x) (over buffer at x) ≡ outcome 0 (length y) (over buffer at y) → x ≡ y
+over-same buffer at x y h q =
+    let c : length x ≡ length y = ap (λ (o : Outcome). o .count) q in
+    let b : over buffer at x ≡ over buffer at y = ap (λ (o : Outcome). o .buffer) q in
+    sym (over-back buffer x at h) ∙ (λ i. take (c i) (drop at (b i))) ∙ over-back buffer y at h
+
+reading-fields : (e : List Profile) (s : List ℕ) → answer e s ≡ 0 → reading e s .fields ≡ fieldsOf e s .numbers
+unfolding reading
+reading-fields e s z = rw z
+
+module _ (e : List Profile) (s u : List ℕ) (a : answer e s ≡ 0) (b : answer e u ≡ 0) (h : CarrySame e s u) where
+  -- each byte string, decoded into a buffer with room for both
+  same-bytes : (c : ByteString) → chosen c (fieldsOf e s) ≡ chosen c (fieldsOf e u)
+  unfolding decoded
+  same-bytes c =
+      let x = chosen c (fieldsOf e s) in
+      let y = chosen c (fieldsOf e u) in
+      let buffer = x ++ y in
+      let l = length-append x y in
+      over-same buffer 0 x y (omega arith)
+      (sym (after-done (answer e s) buffer 0 x a (omega arith)) ∙ h .strings c buffer 0 ∙ after-done (answer e u) buffer 0 y b (omega arith))
+
+  same-carried : fieldsOf e s ≡ fieldsOf e u
+  same-carried =
+      let n = sym (reading-fields e s a) ∙ h .fields ∙ reading-fields e u b in
+      let keyid = same-bytes Keyid in
+      let ad = same-bytes Data in
+      let salt = same-bytes Salt in
+      let output = same-bytes Output in
+      λ i. record { numbers = n i; keyid = keyid i; ad = ad i; salt = salt i; output = output i }
+
+-- a buffer with the room
+abbrev wide : List ℕ
+wide = replicate room 0
+
+pub entries-demand-3 : (e : List Profile) → sound e ≡ true → ((f : FieldSet) → Permitted e f → length (formatted e f) ≤ room) → EntriesDemand3 e
+entries-demand-3 e ok short =
+    record {
+      same-string = λ s u a b h. same-string e ok s u (zero s a) (zero u b) (same-carried e s u (zero s a) (zero u b) h);
+      same-fields = λ f g s a b v w.
+          let p = wrote f s a v in
+          let q = wrote g s b w in
+          same-fields e ok f g (p .0) (q .0) (p .1 ∙ sym (q .1));
+      refused-exactly = λ s. (
+        (λ n f b w.
+            let p = wrote f s b w in
+            n (reading-number e s ∙ ap (answer e) (sym (p .1)) ∙ written e ok f (p .0) .0)),
+        (λ none z.
+            let k = back s z in
+            none (fieldsOf e s) (k .0) (k .1)),
+      );
+      written-back = back;
+    }
+  where
+    agree : EntriesAgree e
+    agree = entries-agree e ok short
+
+    zero : (s : List ℕ) → reading e s .number ≡ 0 → answer e s ≡ 0
+    zero s z = sym (reading-number e s) ∙ z
+
+    wrote : (f : FieldSet) (s : List ℕ) → OfBytes f → WrittenTo e f s → Permitted e f × (formatted e f ≡ s)
+    wrote f s b w =
+        let q = w wide 0 (omega arith) in
+        let p = agree .writes-only f b wide 0 (ap (λ (o : Outcome). o .number) q) in
+        (p, over-same wide 0 (formatted e f) s (omega arith) (sym (agree .writes f p wide 0 (omega arith)) ∙ q))
+
+    back : (s : List ℕ) → reading e s .number ≡ 0 → OfBytes (fieldsOf e s) × WrittenTo e (fieldsOf e s) s
+    back s z =
+        let a = accepted e ok s (zero s z) in
+        (a .0 .bytes, λ buffer at l. agree .writes (fieldsOf e s) (a .0) buffer at l ∙ (λ i. outcome 0 (length (a .1 i)) (over buffer at (a .1 i))))
+
 -- ---- edition two: lengths, agreement, lanes
 
 most-room : (k : ℕ) → mostTwo k ≤ room
@@ -94,6 +172,9 @@ lengths =
       pbkdf2-most = λ f h k. rw (lt-leb (f .numbers .id) 3 k) at (bounds-two f h .0);
       pbkdf2-least = λ f h k o. rw (lt-leb (f .numbers .id) 3 k) at (bounds-two f h .1 o);
     }
+
+pub entries-demand-3-two : EntriesDemand3 editionTwo
+entries-demand-3-two = entries-demand-3 editionTwo edition-two-sound (lengths .any-most)
 
 pub entries-agree-two : EntriesAgree editionTwo
 entries-agree-two = entries-agree editionTwo edition-two-sound (lengths .any-most)
@@ -117,6 +198,8 @@ pub lanes : Lanes
 lanes =
     record {
       lane = λ s z k.
-          let h = accepted editionTwo edition-two-sound s z .0 in
-          (one-lane (fieldsOf editionTwo s) h k, h .lanes);
+          let a : answer editionTwo s ≡ 0 = sym (reading-number editionTwo s) ∙ z in
+          let h = accepted editionTwo edition-two-sound s a .0 in
+          let q = reading-fields editionTwo s a in
+          rw q (one-lane (fieldsOf editionTwo s) h (rw q at k), h .lanes);
     }

@@ -7,10 +7,10 @@ pub mod Demand3
 pub mod Shorts
 pub mod Lengths
 pub mod Strings
-pub mod Claims
 pub mod SlotLaws
 pub mod FieldLaws
 pub mod LimitLaws
 pub mod ValueLaws
 pub mod JudgeLaws
 pub mod ReadLaws
+pub mod Claims

@@ -206,7 +206,7 @@ module _ (s : List ℕ) (z : grammarNumber s ≡ 0) (places : Places) (values : 
 pub whole-refused : (s : List ℕ) (w : Whole) → w .reading ≡ reading editionTwo s → (w .reading .number ≡ 0 → ⊥) → WholeIs s w
 whole-refused s w e n = record { reading-is = e; texts = λ z c. absurd (n z) }
 
-reading-number : (e : List Profile) (s : List ℕ) → reading e s .number ≡ answer e s
+pub reading-number : (e : List Profile) (s : List ℕ) → reading e s .number ≡ answer e s
 unfolding reading
 reading-number e s = go (eqb (answer e s) 0) refl
   where

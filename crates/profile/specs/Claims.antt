@@ -30,7 +30,23 @@ pub record Demand3 (e : List Profile) : Type 0 where
 abbrev pub room : ℕ
 room = 265
 
--- demand 3, of the outcomes that the entries' contracts name, given that room from the writer's place
+-- fields are written to a string: given that room, the writer answers 0 and the bytes it wrote are that string
+abbrev pub WrittenTo : List Profile → FieldSet → List ℕ → Type 0
+WrittenTo e f s = (buffer : List ℕ) (at : ℕ) → at + room ≤ length buffer → writing e f buffer at ≡ outcome 0 (length s) (over buffer at s)
+
+-- two strings carry the same nine fields: the reader gives the same number fields, the byte-string entry the same outcomes
+pub record CarrySame (e : List Profile) (s u : List ℕ) : Type 0 where
+  pub fields : reading e s .fields ≡ reading e u .fields
+  pub strings : (c : ByteString) (buffer : List ℕ) (at : ℕ) → decoded e c s buffer at ≡ decoded e c u buffer at
+
+-- demand 3, of the outcomes that the contracts of the profile reader, the byte-string entry and the writer name
+pub record EntriesDemand3 (e : List Profile) : Type 0 where
+  pub same-string : (s u : List ℕ) → reading e s .number ≡ 0 → reading e u .number ≡ 0 → CarrySame e s u → s ≡ u
+  pub same-fields : (f g : FieldSet) (s : List ℕ) → OfBytes f → OfBytes g → WrittenTo e f s → WrittenTo e g s → f ≡ g
+  pub refused-exactly : (s : List ℕ) → (reading e s .number ≢ 0) ↔ ((f : FieldSet) → OfBytes f → WrittenTo e f s → ⊥)
+  pub written-back : (s : List ℕ) → reading e s .number ≡ 0 → OfBytes (fieldsOf e s) × WrittenTo e (fieldsOf e s) s
+
+-- and fields that go out come back
 pub record EntriesAgree (e : List Profile) : Type 0 where
   -- the writer answers 0 exactly for permitted fields, and what it wrote is their string
   pub writes : (f : FieldSet) → Permitted e f → (buffer : List ℕ) (at : ℕ) → at + room ≤ length buffer
@@ -44,8 +60,8 @@ pub record EntriesAgree (e : List Profile) : Type 0 where
 
 -- the customer's own sentence: every accepted Argon2 string has at least one lane, and eight kilobytes for each
 pub record Lanes : Type 0 where
-  pub lane : (s : List ℕ) → answer editionTwo s ≡ 0 → fieldsOf editionTwo s .numbers .id ≤ 3
-      → (1 ≤ fieldsOf editionTwo s .numbers .p) × (8 * fieldsOf editionTwo s .numbers .p ≤ fieldsOf editionTwo s .numbers .m)
+  pub lane : (s : List ℕ) → reading editionTwo s .number ≡ 0 → reading editionTwo s .fields .id ≤ 3
+      → (1 ≤ reading editionTwo s .fields .p) × (8 * reading editionTwo s .fields .p ≤ reading editionTwo s .fields .m)
 
 -- the longest strings, and the shortest hash strings; ids 1 to 3 are Argon2's
 pub record Lengths : Type 0 where
