@@ -20,7 +20,7 @@ pub record Usual : Type 0 where
   pub t : ℕ
   pub p : ℕ
 
--- `ad` is the paper's `data`, a reserved word here. Ids keep their numbers in every edition, so an entry says whether its id is known.
+-- `ad` is document 01's `data`, a reserved word here. Ids keep their numbers in every edition, so an entry says whether its id is known.
 -- `unwritten` is the algorithm version that a string without a version means
 pub record Profile : Type 0 where
   pub known : Bool
@@ -150,7 +150,7 @@ pbkdf2 name =
       usual = record { version = Absent; m = 0; t = 20000; p = 0 };
     }
 
--- edition two: the paper's table
+-- edition two: document 01's table
 unfoldable pub editionTwo : List Profile
 editionTwo =
     argon2 (text "argon2d")

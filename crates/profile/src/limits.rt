@@ -17,7 +17,7 @@ pub enum BytesRule {
     Barred,
 }
 
-// `ad` is the associated data, the paper's `data`.
+// `ad` is the associated data, document 01's `data`.
 pub struct Limits {
     pub m: NumberRule,
     pub t: NumberRule,
