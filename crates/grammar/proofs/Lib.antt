@@ -5,6 +5,7 @@ pub mod Scanning
 pub mod Lists
 pub mod ClassLaws
 pub mod Writing
+pub mod Over
 pub mod Groups
 pub mod B64Laws
 pub mod B64Code

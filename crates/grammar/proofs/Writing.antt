@@ -75,6 +75,13 @@ put-zero buffer at bytes count left e = go (leb (at + length bytes) (length buff
     go true t q = record { fits = leb-true _ _ t; count-is = ap (λ (o : Outcome). o .count) q; left-is = ap (λ (o : Outcome). o .buffer) q }
     go false t q = let z : _≡_ {A = ℕ} 0 17 = ap (λ (o : Outcome). o .number) q in absurd (omega arith)
 
+-- bytes that fit are written
+pub put-fits : (buffer : List ℕ) (at : ℕ) (bytes : List ℕ) (number count : ℕ) (left : List ℕ) → at + length bytes ≤ length buffer
+    → outcome number count left ≡ put buffer at bytes → Done buffer at bytes count left
+put-fits buffer at bytes number count left h e =
+    let q = e ∙ sym (put-done buffer at bytes h (length bytes) refl (over buffer at bytes) refl) in
+    record { fits = h; count-is = ap (λ (o : Outcome). o .count) q; left-is = ap (λ (o : Outcome). o .buffer) q }
+
 -- what is written can be read back at its place
 pub over-back : (buffer bytes : List ℕ) (at : ℕ) → at ≤ length buffer → take (length bytes) (drop at (over buffer at bytes)) ≡ bytes
 over-back buffer bytes at h =

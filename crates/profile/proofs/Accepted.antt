@@ -31,7 +31,8 @@ use Rattle.profile.specs.Reader.{names, named, itemValue, slots, strange
 use Rattle.profile.specs.Writer.{Permitted, itemList, fieldSlots, fieldPieces, formatted}
 use Rattle.profile.proofs.Codecs.{number-back, bytes-back, version-back}
 use Rattle.profile.proofs.Slots.{list-slots}
-use Rattle.profile.proofs.Table.{sound, entry-at, name-of}
+use Rattle.profile.specs.Sound.{sound}
+use Rattle.profile.proofs.Table.{entry-at, name-of}
 use Rattle.profile.proofs.Written.{Goods, After}
 
 -- ---- what the sorting tells

@@ -22,11 +22,13 @@ use Rattle.profile.specs.declared.fields.ByteString.{ByteString}
 use Rattle.profile.specs.declared.fields.ByteString.the-variants.{Keyid, Data, Salt, Output}
 use Rattle.profile.specs.declared.fields.Reading.{Reading}
 use Rattle.profile.proofs.ReadLaws.{reading-number}
-use Rattle.profile.proofs.Table.{every, at-id, implied, sound, edition-two-sound}
+use Rattle.profile.specs.Sound.{every, sound}
+use Rattle.profile.proofs.Table.{at-id, implied, edition-two-sound}
 use Rattle.profile.proofs.Written.{pieces-of, written}
 use Rattle.profile.proofs.Accepted.{accepted}
 use Rattle.profile.proofs.Demand3.{not-refused, permitted, same-string, same-fields, refused-exactly}
-use Rattle.profile.proofs.Lengths.{mostTwo, bounds-two}
+use Rattle.profile.proofs.Kept.{kept-of}
+use Rattle.profile.proofs.Lengths.{bounds-two, most-room}
 
 -- ---- demand 3, over the rules
 
@@ -157,20 +159,13 @@ entries-demand-3 e ok short =
 
 -- ---- edition two: lengths, agreement, lanes
 
-most-room : (k : ℕ) → mostTwo k ≤ room
-most-room k = go (leb k 3)
-  where
-    go : (b : Bool) → cond b room 171 ≤ room
-    go true = omega arith
-    go false = omega arith
-
 pub lengths : Lengths
 lengths =
     record {
-      any-most = λ f h. omega (arith, bounds-two f h .0, most-room (f .numbers .id));
-      argon2-least = λ f h k o. rw (le-leb (f .numbers .id) 3 k) at (bounds-two f h .1 o);
-      pbkdf2-most = λ f h k. rw (lt-leb (f .numbers .id) 3 k) at (bounds-two f h .0);
-      pbkdf2-least = λ f h k o. rw (lt-leb (f .numbers .id) 3 k) at (bounds-two f h .1 o);
+      any-most = λ f h. most-room f (kept-of editionTwo f h);
+      argon2-least = λ f h k o. rw (le-leb (f .numbers .id) 3 k) at (bounds-two f (kept-of editionTwo f h) .1 o);
+      pbkdf2-most = λ f h k. rw (lt-leb (f .numbers .id) 3 k) at (bounds-two f (kept-of editionTwo f h) .0);
+      pbkdf2-least = λ f h k o. rw (lt-leb (f .numbers .id) 3 k) at (bounds-two f (kept-of editionTwo f h) .1 o);
     }
 
 pub entries-demand-3-two : EntriesDemand3 editionTwo

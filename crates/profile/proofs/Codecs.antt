@@ -32,21 +32,9 @@ use Rattle.profile.specs.declared.limits.BytesRule.the-variants.{Sized, 
 use Rattle.profile.specs.Limits.{Profile, inRange, versionAllowed, largest32}
 use Rattle.profile.specs.Fields.{isNumber, misplacedNumber, readNumber, writtenOut, writeNumber, misplacedBytes, isSized, isBytes, readBytes, writeBytes, readVersion, writeVersion}
 use Rattle.profile.specs.Writer.{bytesAllowed}
+use Rattle.profile.specs.Sound.{soundNumber, soundBytes, soundVersions}
 use Rattle.profile.specs.declared.fields.Version.{Version}
 use Rattle.profile.specs.declared.fields.Version.the-variants.{Absent, Number}
-
--- ---- what an entry has to satisfy
-
--- numbers of 32 bits; what is left out is permitted
-abbrev pub soundNumber : NumberRule → Bool
-soundNumber (Needed low high) = leb high largest32
-soundNumber (Omitted low high given) = leb high largest32 && within low high given
-soundNumber (Fixed given) = true
-
--- byte strings whose text the grammar takes
-abbrev pub soundBytes : BytesRule → Bool
-soundBytes (Sized low high) = leb (charsOf (high .0)) longestValue
-soundBytes Barred = true
 
 -- ---- texts of numbers, over any limits
 
@@ -209,10 +197,6 @@ pub record VersionWritten (v : Version) (s : Slot) : Type 0 where
   pub piece : broken isVersionPiece s ≡ false
   pub version : broken isVersion s ≡ false
   pub reads : readVersion s ≡ v
-
--- the versions that an entry lists are numbers that the grammar takes
-abbrev pub soundVersions : List ℕ → Bool
-soundVersions vs = all (within 0 largestVersion) vs
 
 member-all : (f : ℕ → Bool) (n : ℕ) (l : List ℕ) → all f l ≡ true → has n l ≡ true → f n ≡ true
 member-all f n [] a h = absurd (false≢true h)

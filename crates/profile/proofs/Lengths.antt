@@ -9,99 +9,33 @@ use native.Mathlib.Omega.{arith}
 use lib.Dec.{leb, eqb}
 use lib.ListN.{length, length-append}
 use borrow.Author.Tests.{leb-true, eqb-true}
-use Rattle.grammar.specs.Text.{text, has, empty, join, listOf}
+use Rattle.grammar.specs.Text.{has, empty}
 use Rattle.grammar.specs.Units.{charsOf}
 use Rattle.grammar.specs.Decimal.{digitsWithin, digits}
 use Rattle.grammar.specs.Limits.{longestString}
 use Rattle.grammar.specs.Place.{refused, putAfter}
-use Rattle.grammar.specs.Pieces.{Slot}
-use Rattle.grammar.specs.Items.{Item, itemText, paramsText}
 use Rattle.grammar.proofs.Tests.{both, from-within}
 use Rattle.grammar.proofs.DecimalLaws.{by-tens, length-small, length-step, length-pos}
 use Rattle.grammar.proofs.B64Laws.{length-encode}
 use Rattle.grammar.proofs.Reading.{whole-long}
-use Rattle.grammar.proofs.Longest.{total, join-length}
 use Rattle.profile.specs.declared.limits.NumberRule.{NumberRule}
 use Rattle.profile.specs.declared.limits.NumberRule.the-variants.{Needed, Omitted, Fixed}
 use Rattle.profile.specs.declared.limits.BytesRule.{BytesRule}
 use Rattle.profile.specs.declared.limits.BytesRule.the-variants.{Sized, Barred}
 use Rattle.profile.specs.Limits.{Profile, inRange, versionAllowed, profileOf, editionTwo}
 use Rattle.profile.specs.Fields.{FieldSet, writeNumber, writeBytes, writeVersion}
-use Rattle.profile.specs.Reader.{names, answer}
-use Rattle.profile.specs.Writer.{bytesAllowed, Permitted, item, itemList, fieldPieces, formatted}
+use Rattle.profile.specs.Reader.{answer}
+use Rattle.profile.specs.Writer.{bytesAllowed, formatted}
+use Rattle.profile.specs.WriterSteps.{taggedLength}
 use Rattle.profile.specs.Entries.{reading, refusedReading, decoded}
 use Rattle.profile.specs.Claims.{room}
 use Rattle.profile.specs.declared.fields.ByteString.{ByteString}
 use Rattle.profile.specs.declared.fields.Version.{Version}
 use Rattle.profile.specs.declared.fields.Version.the-variants.{Absent, Number}
-use Rattle.profile.proofs.Table.{every, at-id}
-
--- ---- the length, by the texts that are there
-
--- the bytes of a text that may not be there, with so many before it
-abbrev cost : ℕ → Slot → ℕ
-cost before none = 0
-cost before (some t) = before + length t
-
-slot-total : (s : Slot) (l : List (List ℕ)) → total (listOf s ++ l) ≡ cost 1 s + total l
-unfolding total
-slot-total none l = omega arith
-slot-total (some t) l = omega arith
-
--- an item, with its comma or `$`, its name and its equals sign
-item-total : (n : List ℕ) (s : Slot) (is : List Item) → total (map itemText (item n s ++ is)) ≡ cost (2 + length n) s + total (map itemText is)
-unfolding total
-item-total n none is = omega arith
-item-total n (some t) is = omega (arith, length-append n (61 ∷ t))
-
-params-total : (is : List Item) → cost 1 (paramsText is) ≡ total (map itemText is)
-unfolding total
-params-total [] = refl
-params-total (i ∷ is) = omega (arith, join-length 44 (itemText i) (map itemText is))
-
-whole : (name : List ℕ) (v m t p keyid ad salt output : Slot)
-    → suc (length (join 36 name (listOf v ++ (listOf (paramsText (itemList names (m ∷ t ∷ p ∷ keyid ∷ ad ∷ []))) ++ (listOf salt ++ (listOf output ++ []))))))
-    ≡ 1 + length name + cost 1 v + cost 3 m + cost 3 t + cost 3 p + cost 7 keyid + cost 6 ad + cost 1 salt + cost 1 output
-unfolding total
-whole name v m t p keyid ad salt output =
-    let i₅ = item (text "data") ad ++ [] in
-    let i₄ = item (text "keyid") keyid ++ i₅ in
-    let i₃ = item (text "p") p ++ i₄ in
-    let i₂ = item (text "t") t ++ i₃ in
-    let i₁ = item (text "m") m ++ i₂ in
-    let l₃ = listOf output ++ [] in
-    let l₂ = listOf salt ++ l₃ in
-    let l₁ = listOf (paramsText i₁) ++ l₂ in
-    let e₀ = join-length 36 name (listOf v ++ l₁) in
-    let e₁ = slot-total v l₁ in
-    let e₂ = slot-total (paramsText i₁) l₂ in
-    let e₃ = slot-total salt l₃ in
-    let e₄ = slot-total output [] in
-    let e₅ = params-total i₁ in
-    let e₆ = item-total (text "m") m i₂ in
-    let e₇ = item-total (text "t") t i₃ in
-    let e₈ = item-total (text "p") p i₄ in
-    let e₉ = item-total (text "keyid") keyid i₅ in
-    let e₁₀ = item-total (text "data") ad [] in
-    omega arith
-
--- the entry of the fields' id
-abbrev pub here : List Profile → FieldSet → Profile
-here e f = profileOf e (f .numbers .id)
-
-abbrev size : Profile → FieldSet → ℕ
-size r f =
-    1 + length (r .name) + cost 1 (writeVersion (f .numbers .version))
-    + cost 3 (writeNumber (r .m) (f .numbers .m)) + cost 3 (writeNumber (r .t) (f .numbers .t)) + cost 3 (writeNumber (r .p) (f .numbers .p))
-    + cost 7 (writeBytes (f .keyid)) + cost 6 (writeBytes (f .ad))
-    + cost 1 (writeBytes (f .salt)) + cost 1 (writeBytes (f .output))
-
-formatted-length : (e : List Profile) (f : FieldSet) → length (formatted e f) ≡ size (here e f) f
-unfolding formatted fieldPieces
-formatted-length e f =
-    let r = here e f in
-    whole (r .name) (writeVersion (f .numbers .version)) (writeNumber (r .m) (f .numbers .m)) (writeNumber (r .t) (f .numbers .t)) (writeNumber (r .p) (f .numbers .p))
-    (writeBytes (f .keyid)) (writeBytes (f .ad)) (writeBytes (f .salt)) (writeBytes (f .output))
+use Rattle.profile.specs.Sound.{every}
+use Rattle.profile.proofs.Table.{at-id}
+use Rattle.profile.proofs.Kept.{Kept, here}
+use Rattle.profile.proofs.Texts.{formatted-length}
 
 -- ---- the bounds of each text, by its rule
 
@@ -123,13 +57,13 @@ leastNumber before (Omitted low high given) = 0
 leastNumber before (Fixed given) = 0
 
 number-cost : (before : ℕ) (r : NumberRule) (n : ℕ) → inRange r n ≡ true
-    → (cost before (writeNumber r n) ≤ mostNumber before r) × (leastNumber before r ≤ cost before (writeNumber r n))
+    → (taggedLength before (writeNumber r n) ≤ mostNumber before r) × (leastNumber before r ≤ taggedLength before (writeNumber r n))
 number-cost before (Needed low high) n e =
     let w = from-within low high n e in
     (omega (arith, digits-longer n high (w .1)), omega (arith, digits-longer low n (w .0)))
 number-cost before (Omitted low high given) n e = (go (eqb n given), omega arith)
   where
-    go : (b : Bool) → cost before (cond b none (some (digits n))) ≤ before + length (digits high)
+    go : (b : Bool) → taggedLength before (cond b none (some (digits n))) ≤ before + length (digits high)
     go true = omega arith
     go false = omega (arith, digits-longer n high (from-within low high n e .1))
 number-cost before (Fixed given) n e = (omega arith, omega arith)
@@ -144,7 +78,7 @@ leastBytes before Barred = 0
 
 -- the least is of one that is there
 bytes-cost : (before : ℕ) (r : BytesRule) (bs : List ℕ) → bytesAllowed r bs ≡ true
-    → (cost before (writeBytes bs) ≤ mostBytes before r) × (empty bs ≡ false → leastBytes before r ≤ cost before (writeBytes bs))
+    → (taggedLength before (writeBytes bs) ≤ mostBytes before r) × (empty bs ≡ false → leastBytes before r ≤ taggedLength before (writeBytes bs))
 bytes-cost before r [] e = (omega arith, λ h. absurd (true≢false h))
 bytes-cost before (Sized low high) (b ∷ bs) e =
     let w = from-within (low .0) (high .0) (length (b ∷ bs)) e in
@@ -165,7 +99,7 @@ listed-most (v ∷ vs) n e = go (eqb v n) refl e (listed-most vs n)
     go true q e h = let k : length (digits v) ≡ length (digits n) = ap (λ (i : ℕ). length (digits i)) (eqb-true v n q) in omega arith
     go false q e h = let k = h e in omega arith
 
-version-most : (r : Profile) (v : Version) → versionAllowed r v ≡ true → cost 1 (writeVersion v) ≤ mostVersion (r .versions)
+version-most : (r : Profile) (v : Version) → versionAllowed r v ≡ true → taggedLength 1 (writeVersion v) ≤ mostVersion (r .versions)
 version-most r Absent e = omega arith
 version-most r (Number n) e = let h = listed-most (r .versions) n e in omega arith
 
@@ -190,7 +124,7 @@ salted : (salt output : List ℕ) → (empty salt && not (empty output)) ≡ fal
 salted [] output e h = absurd (true≢false (rw h at e))
 salted (b ∷ bs) output e h = refl
 
-pub bounds : (e : List Profile) (f : FieldSet) → Permitted e f
+pub bounds : (e : List Profile) (f : FieldSet) → Kept (here e f) f
     → (length (formatted e f) ≤ longest (here e f)) × (empty (f .output) ≡ false → shortest (here e f) ≤ length (formatted e f))
 unfolding longest shortest
 bounds e f h =
@@ -213,7 +147,7 @@ bounds e f h =
 abbrev pub keepsTo : (ℕ → ℕ) → (ℕ → ℕ) → ℕ → Profile → Bool
 keepsTo most least k r = leb (longest r) (most k) && leb (least k) (shortest r)
 
-pub bounds-at : (e : List Profile) (most least : ℕ → ℕ) → every (keepsTo most least) 1 e ≡ true → (f : FieldSet) → Permitted e f
+pub bounds-at : (e : List Profile) (most least : ℕ → ℕ) → every (keepsTo most least) 1 e ≡ true → (f : FieldSet) → Kept (here e f) f
     → (length (formatted e f) ≤ most (f .numbers .id)) × (empty (f .output) ≡ false → least (f .numbers .id) ≤ length (formatted e f))
 bounds-at e most least kept f h =
     let k = f .numbers .id in
@@ -233,9 +167,17 @@ kept-two : every (keepsTo mostTwo leastTwo) 1 editionTwo ≡ true
 unfolding editionTwo longest shortest digits digitsWithin
 kept-two = refl
 
-pub bounds-two : (f : FieldSet) → Permitted editionTwo f
+pub bounds-two : (f : FieldSet) → Kept (here editionTwo f) f
     → (length (formatted editionTwo f) ≤ mostTwo (f .numbers .id)) × (empty (f .output) ≡ false → leastTwo (f .numbers .id) ≤ length (formatted editionTwo f))
 bounds-two = bounds-at editionTwo mostTwo leastTwo kept-two
+
+-- every string that the writer does not refuse fits the room
+pub most-room : (f : FieldSet) → Kept (here editionTwo f) f → length (formatted editionTwo f) ≤ room
+most-room f h = go (leb (f .numbers .id) 3) (bounds-two f h .0)
+  where
+    go : (b : Bool) → length (formatted editionTwo f) ≤ cond b room 171 → length (formatted editionTwo f) ≤ room
+    go true l = l
+    go false l = omega arith
 
 -- ---- more than 2,896 bytes: every reader answers 1
 

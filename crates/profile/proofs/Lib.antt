@@ -1,10 +1,12 @@
 pub mod Codecs
 pub mod Slots
 pub mod Table
+pub mod Kept
 pub mod Written
 pub mod Accepted
 pub mod Demand3
 pub mod Shorts
+pub mod Texts
 pub mod Lengths
 pub mod Strings
 pub mod SlotLaws
@@ -13,4 +15,5 @@ pub mod LimitLaws
 pub mod ValueLaws
 pub mod JudgeLaws
 pub mod ReadLaws
+pub mod WriterLaws
 pub mod Claims

@@ -1,24 +1,29 @@
--- The short writer's number is the writer's number for the short writer's fields, in every edition that passes the test `sound`; where
+-- The short writer's number is the writer's number for the short writer's fields, in every edition that passes the test `usualSound`; where
 -- it is 0 they are permitted.
 -- Assumes nothing.
 use Prim.Native.Nat.{ℕ}
 use mathlib.Core.Bool.{Bool, true, false}
-use mathlib.Core.List.{List}
+use mathlib.Core.List.{List, []}
 use mathlib.Core.Path.{_≡_, refl, sym, _∙_}
+use borrow.Author.Tests.{le-ltb}
 use Rattle.grammar.specs.Text.{all}
 use Rattle.grammar.specs.Bytes.{isByte}
 use Rattle.profile.specs.Limits.{Profile, profileOf, editionTwo}
 use Rattle.profile.specs.Writer.{Permitted, refusal, shortFields, shortRefusal}
-use Rattle.profile.proofs.Table.{sound, entry-at, edition-two-sound}
+use Rattle.profile.specs.Fields.{fieldSet}
+use Rattle.profile.specs.Entries.{writing, shortWriting}
+use Rattle.profile.specs.declared.fields.Fields.{Fields}
+use Rattle.profile.specs.Sound.{usualSound}
+use Rattle.profile.proofs.Table.{usual-at, edition-two-usual}
 use Rattle.profile.proofs.Demand3.{permitted}
 
-module _ (e : List Profile) (ok : sound e ≡ true) (k : ℕ) (salt output : List ℕ) where
+module _ (e : List Profile) (ok : usualSound e ≡ true) (k : ℕ) (salt output : List ℕ) where
   pub short-number : shortRefusal e k salt output ≡ refusal e (shortFields e k salt output)
   unfolding refusal shortFields shortRefusal
   short-number = go (profileOf e k .known) refl
     where
       go : (b : Bool) → profileOf e k .known ≡ b → shortRefusal e k salt output ≡ refusal e (shortFields e k salt output)
-      go true q = let E = entry-at e ok k q in rw (E .usual-version, E .usual-numbers, q)
+      go true q = let u = usual-at e ok k q in rw (u .version, u .m, u .t, u .p, le-ltb _ _ (u .lanes), q)
       go false q = rw q
 
   pub short-permitted : shortRefusal e k salt output ≡ 0 → all isByte salt ≡ true → all isByte output ≡ true → Permitted e (shortFields e k salt output)
@@ -26,8 +31,14 @@ module _ (e : List Profile) (ok : sound e ≡ true) (k : ℕ) (salt output : Lis
   short-permitted z s o = permitted e (shortFields e k salt output) (sym short-number ∙ z) (refl, refl, s, o)
 
 pub short-number-two : (k : ℕ) (salt output : List ℕ) → shortRefusal editionTwo k salt output ≡ refusal editionTwo (shortFields editionTwo k salt output)
-short-number-two = short-number editionTwo edition-two-sound
+short-number-two = short-number editionTwo edition-two-usual
 
 pub short-permitted-two : (k : ℕ) (salt output : List ℕ) → shortRefusal editionTwo k salt output ≡ 0 → all isByte salt ≡ true → all isByte output ≡ true
     → Permitted editionTwo (shortFields editionTwo k salt output)
-short-permitted-two = short-permitted editionTwo edition-two-sound
+short-permitted-two = short-permitted editionTwo edition-two-usual
+
+-- the short writer is the writer, given the short writer's fields
+pub short-writing : (k : ℕ) (salt output buffer : List ℕ) (at : ℕ) (n : Fields) → n ≡ shortFields editionTwo k [] [] .numbers
+    → writing editionTwo (fieldSet n [] [] salt output) buffer at ≡ shortWriting editionTwo k salt output buffer at
+unfolding shortFields writing shortWriting
+short-writing k salt output buffer at n e = rw (e, short-number-two k salt output)

@@ -1,6 +1,6 @@
--- The ids of an edition: the number of an id text and the entry at a number. `sound` is the test that an edition has to pass.
+-- The ids of an edition: the number of an id text and the entry at a number; and what the tests of specs/Sound.antt say of an entry.
 -- Assumes nothing.
-use Prim.Native.Nat.{ℕ, zero, suc, _+_, _*_}
+use Prim.Native.Nat.{ℕ, zero, suc, _+_, _*_, _≤_}
 use mathlib.Core.Bool.{Bool, true, false, not, cond, _&&_, _||_, true≢false, false≢true}
 use mathlib.Core.List.{List, [], _∷_}
 use mathlib.Core.Path.{_≡_, refl, sym, _∙_, subst}
@@ -8,21 +8,16 @@ use native.Mathlib.Omega.{arith}
 use native.Mathlib.Nat.{add-zero, add-suc, suc-add}
 use lib.Dec.{leb, eqb, eqb·suc-zero}
 use lib.ListN.{getD}
-use borrow.Author.Tests.{eqb-true}
+use borrow.Author.Tests.{eqb-true, leb-true}
 use Rattle.grammar.specs.Text.{same}
 use Rattle.grammar.specs.Bytes.{isNameByte, isText}
 use Rattle.grammar.specs.Rules.{isName}
 use Rattle.grammar.proofs.Tests.{both}
 use Rattle.grammar.proofs.Lists.{same-eq}
 use Rattle.profile.specs.Limits.{Profile, inRange, versionAllowed, next, idOf, nobody, profileOf, editionTwo}
-use Rattle.profile.proofs.Codecs.{soundNumber, soundBytes, soundVersions}
+use Rattle.profile.specs.Sound.{every, soundNumber, soundBytes, soundVersions, soundAt, sound, usualAt, usualSound}
 
 -- ---- a test on each entry
-
--- f passes at each entry and its number, counted from k
-abbrev pub every : (ℕ → Profile → Bool) → ℕ → List Profile → Bool
-every f k [] = true
-every f k (r ∷ rs) = f k r && every f (suc k) rs
 
 from : (f : ℕ → Profile → Bool) (rs : List Profile) (j : ℕ) → every f j rs ≡ true → (k : ℕ) → getD rs k nobody .known ≡ true → f (j + k) (getD rs k nobody) ≡ true
 from f [] j t k h = absurd (false≢true h)
@@ -38,27 +33,7 @@ pub implied : (a b : Bool) → (not a || b) ≡ true → a ≡ true → b ≡ tr
 implied true b h e = h
 implied false b h e = absurd (false≢true e)
 
--- ---- the test of an edition
-
--- the short writer's numbers are permitted
-abbrev pub usualNumbers : Profile → Bool
-usualNumbers r =
-    let u = r .usual in
-    inRange (r .m) (u .m) && inRange (r .t) (u .t) && inRange (r .p) (u .p) && leb (8 * u .p) (u .m)
-
--- the entry at k has an id of its own, and limits within what the grammar takes
-abbrev soundAt : List Profile → ℕ → Profile → Bool
-soundAt e k r =
-    not (r .known) || (eqb (idOf e (r .name)) k
-    && (isName (r .name)
-    && (soundVersions (r .versions)
-    && (soundNumber (r .m)
-    && (soundNumber (r .t)
-    && (soundNumber (r .p)
-    && (soundBytes (r .keyid) && (soundBytes (r .ad) && (soundBytes (r .salt) && (soundBytes (r .output) && (versionAllowed r (r .usual .version) && usualNumbers r)))))))))))
-
-unfoldable pub sound : List Profile → Bool
-sound e = every (soundAt e) 1 e
+-- ---- the tests of an edition
 
 -- what the test says of the entry r at k
 pub record Entry (e : List Profile) (k : ℕ) (r : Profile) : Type 0 where
@@ -72,8 +47,6 @@ pub record Entry (e : List Profile) (k : ℕ) (r : Profile) : Type 0 where
   pub ad : soundBytes (r .ad) ≡ true
   pub salt : soundBytes (r .salt) ≡ true
   pub output : soundBytes (r .output) ≡ true
-  pub usual-version : versionAllowed r (r .usual .version) ≡ true
-  pub usual-numbers : usualNumbers r ≡ true
 
 entry : (e : List Profile) (k : ℕ) (r : Profile) → r .known ≡ true → soundAt e k r ≡ true → Entry e k r
 entry e k r known h₀ =
@@ -85,9 +58,7 @@ entry e k r known h₀ =
     let h₆ = both _ _ (h₅ .1) in
     let h₇ = both _ _ (h₆ .1) in
     let h₈ = both _ _ (h₇ .1) in
-    let h₉ = both _ _ (h₈ .1) in
-    let h₁₀ = both _ _ (h₉ .1) in
-    let h₁₁ = both (versionAllowed r (r .usual .version)) _ (h₁₀ .1) in
+    let h₉ = both (soundBytes (r .salt)) (soundBytes (r .output)) (h₈ .1) in
     record {
       found = eqb-true (idOf e (r .name)) k (h₁ .0);
       named = h₂ .0;
@@ -98,14 +69,33 @@ entry e k r known h₀ =
       keyid = h₇ .0;
       ad = h₈ .0;
       salt = h₉ .0;
-      output = h₁₀ .0;
-      usual-version = h₁₁ .0;
-      usual-numbers = h₁₁ .1;
+      output = h₉ .1;
     }
 
 pub entry-at : (e : List Profile) → sound e ≡ true → (k : ℕ) → profileOf e k .known ≡ true → Entry e k (profileOf e k)
 unfolding sound
 entry-at e s k h = entry e k (profileOf e k) h (at-id (soundAt e) e s k h)
+
+-- what the second test says: the short writer's numbers are permitted
+pub record UsualEntry (r : Profile) : Type 0 where
+  pub version : versionAllowed r (r .usual .version) ≡ true
+  pub m : inRange (r .m) (r .usual .m) ≡ true
+  pub t : inRange (r .t) (r .usual .t) ≡ true
+  pub p : inRange (r .p) (r .usual .p) ≡ true
+  pub lanes : 8 * r .usual .p ≤ r .usual .m
+
+usual-entry : (k : ℕ) (r : Profile) → r .known ≡ true → usualAt k r ≡ true → UsualEntry r
+usual-entry k r known h₀ =
+    let u = r .usual in
+    let h₁ = both (versionAllowed r (u .version)) _ (implied (r .known) _ h₀ known) in
+    let h₂ = both (inRange (r .m) (u .m)) _ (h₁ .1) in
+    let h₃ = both (inRange (r .t) (u .t)) _ (h₂ .1) in
+    let h₄ = both (inRange (r .p) (u .p)) (leb (8 * u .p) (u .m)) (h₃ .1) in
+    record { version = h₁ .0; m = h₂ .0; t = h₃ .0; p = h₄ .0; lanes = leb-true (8 * u .p) (u .m) (h₄ .1) }
+
+pub usual-at : (e : List Profile) → usualSound e ≡ true → (k : ℕ) → profileOf e k .known ≡ true → UsualEntry (profileOf e k)
+unfolding usualSound
+usual-at e s k h = usual-entry k (profileOf e k) h (at-id usualAt e s k h)
 
 -- ---- ids and their numbers
 
@@ -129,3 +119,7 @@ name-of (r ∷ rs) s h = go (r .known && same s (r .name)) refl (idOf rs s) h (n
 pub edition-two-sound : sound editionTwo ≡ true
 unfolding sound editionTwo isNameByte isText
 edition-two-sound = refl
+
+pub edition-two-usual : usualSound editionTwo ≡ true
+unfolding usualSound editionTwo
+edition-two-usual = refl

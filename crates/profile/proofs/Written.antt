@@ -33,7 +33,8 @@ use Rattle.profile.specs.declared.fields.Version.{Version}
 use Rattle.profile.specs.declared.fields.Version.the-variants.{Absent, Number}
 use Rattle.profile.proofs.Codecs.{digits-values, NumberWritten, number-forth, BytesWritten, bytes-forth, VersionWritten, version-forth}
 use Rattle.profile.proofs.Slots.{slots-list}
-use Rattle.profile.proofs.Table.{sound, Entry, entry-at, known-id}
+use Rattle.profile.specs.Sound.{sound}
+use Rattle.profile.proofs.Table.{Entry, entry-at, known-id}
 
 -- ---- the items keep the grammar's rule
 

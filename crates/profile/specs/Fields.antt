@@ -32,6 +32,9 @@ pub record FieldSet : Type 0 where
   pub salt : List ℕ
   pub output : List ℕ
 
+abbrev pub fieldSet : Fields → List ℕ → List ℕ → List ℕ → List ℕ → FieldSet
+fieldSet numbers keyid ad salt output = record { numbers = numbers; keyid = keyid; ad = ad; salt = salt; output = output }
+
 abbrev pub chosen : ByteString → FieldSet → List ℕ
 chosen Keyid f = f .keyid
 chosen Data f = f .ad

@@ -2,7 +2,9 @@ pub mod Limits
 pub mod Fields
 pub mod Reader
 pub mod Writer
+pub mod Sound
 pub mod Entries
 pub mod Claims
 pub mod Strings
 pub mod ReaderSteps
+pub mod WriterSteps

@@ -5,7 +5,7 @@ use mathlib.Core.Path.{_≡_}
 use mathlib.Core.Bool.{Bool, true, false, not, _&&_, _||_}
 use mathlib.Core.List.{List, [], _∷_, _++_}
 use mathlib.Core.Option.{none, some}
-use lib.Dec.{leb}
+use lib.Dec.{ltb}
 use lib.ListN.{length}
 use Rattle.grammar.specs.Text.{all, empty}
 use Rattle.grammar.specs.Bytes.{isByte}
@@ -13,9 +13,11 @@ use Rattle.grammar.specs.Pieces.{Slot, Pieces, string}
 use Rattle.grammar.specs.Items.{Item, paramsText}
 use Rattle.grammar.specs.Rules.{Row, row, firstOf}
 use Rattle.profile.specs.declared.limits.BytesRule.{BytesRule}
-use Rattle.profile.specs.Limits.{Profile, inRange, isSize, versionAllowed, profileOf}
-use Rattle.profile.specs.Fields.{FieldSet, writeNumber, writeBytes, writeVersion}
+use Rattle.profile.specs.declared.limits.Limits.{Limits}
+use Rattle.profile.specs.Limits.{Profile, limitsOf, inRange, isSize, versionAllowed, profileOf}
+use Rattle.profile.specs.Fields.{FieldSet, fieldSet, writeNumber, writeBytes, writeVersion}
 use Rattle.profile.specs.Reader.{names}
+use Rattle.profile.specs.declared.fields.Fields.{Fields}
 
 -- empty, or of a permitted size
 abbrev pub bytesAllowed : BytesRule → List ℕ → Bool
@@ -44,18 +46,36 @@ pub record Permitted (e : List Profile) (f : FieldSet) : Type 0 where
 
 -- ---- the writer's rows
 
+-- the numbers: each in its range, then m at least 8p
+abbrev pub rangeRows : Limits → Fields → List Row
+rangeRows l n =
+    row 11 (not (inRange (l .m) (n .m)))
+    ∷ row 11 (not (inRange (l .t) (n .t)))
+    ∷ row 11 (not (inRange (l .p) (n .p)))
+    ∷ row 11 (ltb (n .m) (8 * n .p))
+    ∷ []
+
+abbrev pub saltRows : Limits → List ℕ → List ℕ → List Row
+saltRows l salt output =
+    row 14 (not (bytesAllowed (l .salt) salt))
+    ∷ row 15 (not (bytesAllowed (l .output) output))
+    ∷ row 16 (empty salt && not (empty output))
+    ∷ []
+
+-- keyid and data, then salt and output
+abbrev pub bytesRows : Limits → List ℕ → List ℕ → List ℕ → List ℕ → List Row
+bytesRows l keyid ad salt output =
+    row 12 (not (bytesAllowed (l .keyid) keyid))
+    ∷ row 12 (not (bytesAllowed (l .ad) ad))
+    ∷ saltRows l salt output
+
 abbrev pub writerRows : List Profile → FieldSet → List Row
 writerRows e f =
-    let n = f .numbers in
-    let r = profileOf e (n .id) in
+    let r = profileOf e (f .numbers .id) in
     row 8 (not (r .known))
-    ∷ row 9 (not (versionAllowed r (n .version)))
-    ∷ row 11 (not (inRange (r .m) (n .m) && inRange (r .t) (n .t) && inRange (r .p) (n .p) && leb (8 * n .p) (n .m)))
-    ∷ row 12 (not (bytesAllowed (r .keyid) (f .keyid) && bytesAllowed (r .ad) (f .ad)))
-    ∷ row 14 (not (bytesAllowed (r .salt) (f .salt)))
-    ∷ row 15 (not (bytesAllowed (r .output) (f .output)))
-    ∷ row 16 (empty (f .salt) && not (empty (f .output)))
-    ∷ []
+    ∷ row 9 (not (versionAllowed r (f .numbers .version)))
+    ∷ (rangeRows (limitsOf r) (f .numbers)
+    ++ bytesRows (limitsOf r) (f .keyid) (f .ad) (f .salt) (f .output))
 
 -- the writer's number, before it looks at the room
 unfoldable pub refusal : List Profile → FieldSet → ℕ
@@ -104,21 +124,12 @@ formatted e f = string (fieldPieces e f)
 unfoldable pub shortFields : List Profile → ℕ → List ℕ → List ℕ → FieldSet
 shortFields e k salt output =
     let u = profileOf e k .usual in
-    record {
-      numbers = record { id = k; version = u .version; m = u .m; t = u .t; p = u .p };
-      keyid = [];
-      ad = [];
-      salt = salt;
-      output = output;
-    }
+    fieldSet (record { id = k; version = u .version; m = u .m; t = u .t; p = u .p }) [] [] salt output
 
 abbrev pub shortRows : List Profile → ℕ → List ℕ → List ℕ → List Row
 shortRows e k salt output =
-    row 8 (not (profileOf e k .known))
-    ∷ row 14 (not (bytesAllowed (profileOf e k .salt) salt))
-    ∷ row 15 (not (bytesAllowed (profileOf e k .output) output))
-    ∷ row 16 (empty salt && not (empty output))
-    ∷ []
+    let r = profileOf e k in
+    row 8 (not (r .known)) ∷ saltRows (limitsOf r) salt output
 
 unfoldable pub shortRefusal : List Profile → ℕ → List ℕ → List ℕ → ℕ
 shortRefusal e k salt output = firstOf (shortRows e k salt output)

@@ -1,4 +1,4 @@
-// One byte string: its rule over the span of its text. Sizes are in bytes, lengths of texts in characters.
+// One byte string: its rule over the span of its text, and over its bytes. Sizes are in bytes, lengths of texts in characters.
 use crate::limits::BytesRule;
 use grammar::b64::is_canonical;
 use grammar::parts::part;
@@ -12,6 +12,7 @@ ghost use mathlib.Core.List.{List};
 ghost use Rattle.grammar.specs.Text.{broken};
 ghost use Rattle.profile.specs.Limits.{isSize};
 ghost use Rattle.profile.specs.Fields.{isSized, isBytes, misplacedBytes};
+ghost use Rattle.profile.specs.Writer.{bytesAllowed};
 ghost use Rattle.profile.specs.ReaderSteps.{slotIn};
 
 pub fn is_size(rule: BytesRule, size: Bytes) -> bool
@@ -58,4 +59,14 @@ pub fn bad_bytes(rule: BytesRule, t: &[u8], span: Span) -> bool
         return true;
     }
     bad_size(rule, t, span)
+}
+
+// Empty, or of a permitted size.
+pub fn bytes_allowed(rule: BytesRule, bytes: &[u8]) -> bool
+    ensures { λ r. ⌜ r ≡ bytesAllowed rule (now (bytes .entry)) ⌝ }
+{
+    if bytes.len() == 0 {
+        return true;
+    }
+    is_size(rule, Bytes(bytes.len()))
 }

@@ -109,6 +109,12 @@ pub fn limits_of(id: u8) -> Limits
     nobody()
 }
 
+pub fn is_known(id: u8) -> bool
+    ensures { λ r. ⌜ r ≡ profileOf editionTwo id .known ⌝ }
+{
+    1 <= id && id <= 5
+}
+
 // Absent in every profile; 16 or 19 in Argon2's.
 pub fn version_allowed(id: u8, version: Version) -> bool
     ensures { λ r. ⌜ r ≡ versionAllowed (profileOf editionTwo id) version ⌝ }

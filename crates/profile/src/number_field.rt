@@ -1,19 +1,25 @@
-// One number parameter: its rule over the span of its value.
+// One number parameter: its rule over the span of its value, and its text.
 use crate::limits::NumberRule;
+use crate::tagged::decimal_len;
+use crate::tagged::put_decimal;
 use grammar::decimal::Limited;
 use grammar::decimal::read_within;
 use grammar::parts::part;
 use grammar::pieces::Span;
-ghost use Prim.Native.Nat.{ℕ};
+ghost use Prim.Native.Nat.{ℕ, _≤_};
 ghost use mathlib.Core.Path.{_≡_};
-ghost use mathlib.Core.Bool.{false, not};
-ghost use mathlib.Core.Option.{none};
+ghost use mathlib.Core.Bool.{false, not, cond};
+ghost use mathlib.Core.Option.{none, some};
 ghost use mathlib.Core.List.{List};
+ghost use lib.ListN.{length};
 ghost use Rattle.grammar.specs.Text.{broken};
+ghost use Rattle.grammar.specs.Decimal.{digits};
 ghost use Rattle.grammar.specs.Numerals.{limitedValue};
-ghost use Rattle.profile.specs.Limits.{lowest, highest};
-ghost use Rattle.profile.specs.Fields.{numberReading, isNumber, misplacedNumber, readNumber, writtenOut};
+ghost use Rattle.profile.specs.Limits.{lowest, highest, inRange};
+ghost use Rattle.profile.specs.Fields.{numberReading, isNumber, misplacedNumber, readNumber, writtenOut, writeNumber};
+ghost use Rattle.profile.specs.Claims.{room};
 ghost use Rattle.profile.specs.ReaderSteps.{slotIn};
+ghost use Rattle.profile.specs.WriterSteps.{tagged, taggedLength, Wrote};
 
 // What was read: whether the value keeps its rule, and the number.
 pub struct Number {
@@ -131,4 +137,47 @@ pub fn written_out(rule: NumberRule, span: Span, value: u32) -> bool
         }
         NumberRule::Fixed { given: _ } => false,
     }
+}
+
+pub fn in_range(rule: NumberRule, n: u32) -> bool
+    ensures { λ r. ⌜ r ≡ inRange rule n ⌝ }
+{
+    lowest_of(rule) <= n && n <= highest_of(rule)
+}
+
+// Whether a number is left out of the string.
+fn is_left_out(rule: NumberRule, n: u32) -> bool
+    ensures { λ r. ⌜ writeNumber rule n ≡ cond r none (some (digits n)) ⌝ }
+{
+    match rule {
+        NumberRule::Needed { low: _, high: _ } => false,
+        NumberRule::Omitted {
+            low: _,
+            high: _,
+            given,
+        } => n == given,
+        NumberRule::Fixed { given: _ } => true,
+    }
+}
+
+// The length of a number after a tag of so many bytes; nothing where it is left out.
+pub fn number_len(tag: usize, rule: NumberRule, n: u32) -> usize
+    requires { ⌜ tag ≤ room ⌝ }
+    ensures { λ r. ⌜ r ≡ taggedLength tag (writeNumber rule n) ⌝ }
+{
+    if is_left_out(rule, n) {
+        return 0;
+    }
+    decimal_len(tag, n)
+}
+
+// Puts a number after its tag at the start of a buffer; nothing where it is left out.
+pub fn put_number(tag: &[u8], rule: NumberRule, n: u32, out: &mut [u8]) -> usize
+    requires { ⌜ length (tagged (now tag) (writeNumber rule n)) ≤ length (now out) ⌝ }
+    ensures { λ r. ⌜ Wrote (tagged (now (tag .entry)) (writeNumber rule n)) (now (out .entry)) (now (out .exit)) r ⌝ }
+{
+    if is_left_out(rule, n) {
+        return 0;
+    }
+    put_decimal(tag, n, out)
 }

@@ -1,0 +1,129 @@
+-- The string that fields are written to, piece by piece as the writer puts it, and its length.
+-- Assumes nothing.
+use Prim.Native.Nat.{ℕ, _+_}
+use mathlib.Core.List.{List, [], _∷_, _++_, map, append-nil, append-assoc}
+use mathlib.Core.Option.{none, some}
+use mathlib.Core.Path.{_≡_, refl, sym, _∙_, ap}
+use native.Mathlib.Omega.{arith}
+use lib.ListN.{length, length-append}
+use Rattle.grammar.specs.Text.{text, join, listOf}
+use Rattle.grammar.specs.Pieces.{Slot}
+use Rattle.grammar.specs.Items.{Item, itemText, paramsText}
+use Rattle.profile.specs.Limits.{Profile, limitsOf, profileOf}
+use Rattle.profile.specs.Fields.{FieldSet, writeNumber, writeBytes, writeVersion}
+use Rattle.profile.specs.Reader.{names}
+use Rattle.profile.specs.Writer.{item, itemList, fieldSlots, fieldPieces, formatted}
+use Rattle.profile.specs.WriterSteps.{tagged, taggedLength, itemsText, dollared, piecesText, piecesLength}
+use Rattle.profile.specs.declared.limits.Limits.{Limits}
+
+-- ---- parts, each with a separator before it
+
+abbrev marked : ℕ → List (List ℕ) → List ℕ
+marked d [] = []
+marked d (q ∷ qs) = d ∷ (q ++ marked d qs)
+
+join-marked : (d : ℕ) (p : List ℕ) (qs : List (List ℕ)) → join d p qs ≡ p ++ marked d qs
+join-marked d p [] = sym (append-nil p)
+join-marked d p (q ∷ qs) = ap (λ (l : List ℕ). p ++ d ∷ l) (join-marked d q qs)
+
+slot-marked : (s : Slot) (l : List (List ℕ)) → marked 36 (listOf s ++ l) ≡ tagged (text "$") s ++ marked 36 l
+slot-marked none l = refl
+slot-marked (some t) l = refl
+
+item-marked : (n : List ℕ) (s : Slot) (is : List Item)
+    → marked 44 (map itemText (item n s ++ is)) ≡ tagged (44 ∷ (n ++ 61 ∷ [])) s ++ marked 44 (map itemText is)
+item-marked n none is = refl
+item-marked n (some t) is =
+    ap (λ (l : List ℕ). 44 ∷ (l ++ marked 44 (map itemText is))) (sym (append-assoc n (61 ∷ []) t))
+
+params-marked : (is : List Item) → tagged (text "$") (paramsText is) ≡ dollared (marked 44 (map itemText is))
+params-marked [] = refl
+params-marked (i ∷ is) = ap (λ (l : List ℕ). 36 ∷ l) (join-marked 44 (itemText i) (map itemText is))
+
+-- ---- the items and the pieces
+
+five : (a b c d e : List ℕ) → a ++ (b ++ (c ++ (d ++ e))) ≡ a ++ b ++ c ++ d ++ e
+five a b c d e =
+    sym (append-assoc a b (c ++ (d ++ e))) ∙ sym (append-assoc (a ++ b) c (d ++ e)) ∙ sym (append-assoc (a ++ b ++ c) d e)
+
+length-five : (a b c d e : List ℕ) → length (a ++ b ++ c ++ d ++ e) ≡ length a + length b + length c + length d + length e
+length-five a b c d e =
+    omega (arith, length-append (a ++ b ++ c ++ d) e, length-append (a ++ b ++ c) d, length-append (a ++ b) c, length-append a b)
+
+items-are : (r : Profile) (f : FieldSet) → marked 44 (map itemText (itemList names (fieldSlots r f))) ≡ itemsText (limitsOf r) (f .numbers) (f .keyid) (f .ad)
+items-are r f =
+    let n = f .numbers in
+    let ad = item (text "data") (writeBytes (f .ad)) ++ [] in
+    let keyid = item (text "keyid") (writeBytes (f .keyid)) ++ ad in
+    let p = item (text "p") (writeNumber (r .p) (n .p)) ++ keyid in
+    let t = item (text "t") (writeNumber (r .t) (n .t)) ++ p in
+    rw (
+      item-marked (text "m") (writeNumber (r .m) (n .m)) t,
+      item-marked (text "t") (writeNumber (r .t) (n .t)) p,
+      item-marked (text "p") (writeNumber (r .p) (n .p)) keyid,
+      item-marked (text "keyid") (writeBytes (f .keyid)) ad,
+      item-marked (text "data") (writeBytes (f .ad)) [],
+      append-nil,
+    ) (five (tagged (text ",m=") (writeNumber (r .m) (n .m))) (tagged (text ",t=") (writeNumber (r .t) (n .t))) (tagged (text ",p=") (writeNumber (r .p) (n .p))) (tagged (text ",keyid=") (writeBytes (f .keyid))) (tagged (text ",data=") (writeBytes (f .ad))))
+
+pub formatted-is : (e : List Profile) (f : FieldSet) → formatted e f ≡ piecesText (limitsOf (profileOf e (f .numbers .id))) (profileOf e (f .numbers .id) .name) f
+unfolding formatted fieldPieces
+formatted-is e f =
+    let r = profileOf e (f .numbers .id) in
+    let params = paramsText (itemList names (fieldSlots r f)) in
+    let output = listOf (writeBytes (f .output)) ++ [] in
+    let salt = listOf (writeBytes (f .salt)) ++ output in
+    let rest = listOf params ++ salt in
+    rw (
+      join-marked 36 (r .name) (listOf (writeVersion (f .numbers .version)) ++ rest),
+      slot-marked (writeVersion (f .numbers .version)) rest,
+      slot-marked params salt,
+      slot-marked (writeBytes (f .salt)) output,
+      slot-marked (writeBytes (f .output)) [],
+      params-marked (itemList names (fieldSlots r f)),
+      items-are r f,
+      append-nil (tagged (text "$") (writeBytes (f .output))),
+    ) (five (36 ∷ r .name) (tagged (text "$") (writeVersion (f .numbers .version))) (dollared (itemsText (limitsOf r) (f .numbers) (f .keyid) (f .ad))) (tagged (text "$") (writeBytes (f .salt))) (tagged (text "$") (writeBytes (f .output))))
+
+-- ---- lengths
+
+pub tagged-length : (tag : List ℕ) (s : Slot) → length (tagged tag s) ≡ taggedLength (length tag) s
+tagged-length tag none = refl
+tagged-length tag (some t) = length-append tag t
+
+pub dollared-length : (s : List ℕ) → length (dollared s) ≡ length s
+dollared-length [] = refl
+dollared-length (c ∷ s) = refl
+
+pub pieces-length : (l : Limits) (name : List ℕ) (f : FieldSet) → length (piecesText l name f) ≡ piecesLength l (length name) f
+pieces-length l name f =
+    let n = f .numbers in
+    let m = writeNumber (l .m) (n .m) in
+    let t = writeNumber (l .t) (n .t) in
+    let p = writeNumber (l .p) (n .p) in
+    let keyid = writeBytes (f .keyid) in
+    let ad = writeBytes (f .ad) in
+    let version = writeVersion (n .version) in
+    let salt = writeBytes (f .salt) in
+    let output = writeBytes (f .output) in
+    let items = itemsText l n (f .keyid) (f .ad) in
+    omega (
+      arith,
+      length-five (36 ∷ name) (tagged (text "$") version) (dollared items) (tagged (text "$") salt) (tagged (text "$") output),
+      length-five (tagged (text ",m=") m) (tagged (text ",t=") t) (tagged (text ",p=") p) (tagged (text ",keyid=") keyid) (tagged (text ",data=") ad),
+      dollared-length items,
+      tagged-length (text ",m=") m,
+      tagged-length (text ",t=") t,
+      tagged-length (text ",p=") p,
+      tagged-length (text ",keyid=") keyid,
+      tagged-length (text ",data=") ad,
+      tagged-length (text "$") version,
+      tagged-length (text "$") salt,
+      tagged-length (text "$") output,
+    )
+
+pub formatted-length : (e : List Profile) (f : FieldSet)
+    → length (formatted e f) ≡ piecesLength (limitsOf (profileOf e (f .numbers .id))) (length (profileOf e (f .numbers .id) .name)) f
+formatted-length e f =
+    let r = profileOf e (f .numbers .id) in
+    ap length (formatted-is e f) ∙ pieces-length (limitsOf r) (r .name) f

@@ -1,0 +1,42 @@
+-- `profile::tagged::bytes_len` meets its contract. Assumes nothing.
+use Prim.Native.Nat.{_+_, _≤_}
+use mathlib.Core.Path.{_≡_}
+use native.Mathlib.Omega.{arith}
+use borrow.Author.Needs.{needs}
+use denote.Ref.{now}
+use lib.ListN.{length}
+use Rattle.grammar.specs.B64.{encode}
+use Rattle.grammar.proofs.B64Laws.{length-encode}
+use Rattle.profile.specs.Fields.{writeBytes}
+use Rattle.profile.specs.Claims.{room}
+use Rattle.profile.specs.WriterSteps.{taggedLength}
+use Rattle.profile.proofs.WriterLaws.{no-bytes, some-bytes}
+use Rattle.profile.proofs.tagged.bytes_len.Statement.{statement}
+use Rattle.profile.proofs.tagged.bytes_len.Tie as tie
+
+abbrev at-else : tie.Else1 → tie.Start
+at-else c = c .before .before
+
+there : (c : tie.Else1) → taggedLength (at-else c .args .tag) (writeBytes (now (at-else c .args .bytes))) ≡ at-else c .args .tag + length (encode (now (at-else c .args .bytes)))
+there c = rw (some-bytes (now (at-else c .args .bytes)) (c .if1 .left))
+
+fits : (c : tie.Else1) → at-else c .args .tag + length (encode (now (at-else c .args .bytes))) ≤ room
+fits c = rw (there c) at (at-else c .pre)
+
+counted : (c : tie.After-encoded-len) → c .encoded-len .result .0 ≡ length (encode (now (at-else (c .before) .args .bytes)))
+counted c = omega (arith, c .encoded-len .ensures, length-encode (now (at-else (c .before) .args .bytes)), fits (c .before))
+
+returns : tie.Need-returns
+returns c = rw (no-bytes (now (c .before .before .args .bytes)) (c .if1 .taken))
+
+encoded-len-requires : tie.Need-encoded-len-requires
+encoded-len-requires c κs = search needs
+
+add-result : tie.Need-add-result
+add-result c = omega (arith, counted (c .before), fits (c .before .before))
+
+returns-2 : tie.Need-returns-2
+returns-2 c = rw (there (c .before .before)) (omega (arith, counted (c .before)))
+
+pub bytes-len-spec : {M : Type 1} → statement M
+bytes-len-spec = tie.close (tie.spec returns encoded-len-requires add-result returns-2)

@@ -1,0 +1,21 @@
+-- `profile::tagged::put_text` meets its contract. Assumes nothing.
+use borrow.Author.Needs.{needs}
+use denote.Ref.{now}
+use Rattle.profile.proofs.WriterLaws.{wrote-start}
+use Rattle.profile.proofs.tagged.put_text.Statement.{statement}
+use Rattle.profile.proofs.tagged.put_text.Tie as tie
+
+write-text-requires : tie.Need-write-text-requires
+write-text-requires c κs = search needs
+
+same-length : tie.Need-same-length
+same-length c = search needs
+
+returns : tie.Need-returns
+returns c =
+    let w = c .before .before in
+    let s = w .before .before .before .before in
+    wrote-start (now (s .args .out)) _ (now (s .args .text)) (w .write-text .result .number) (w .write-text .result .count .0) (s .pre) (w .write-text .ensures)
+
+pub put-text-spec : {M : Type 1} → statement M
+put-text-spec = tie.close (tie.spec write-text-requires same-length returns)

@@ -1,0 +1,43 @@
+-- `profile::version_field::put_version` meets its contract. Assumes nothing.
+use borrow.Author.Needs.{needs}
+use denote.Ref.{now}
+use Rattle.profile.proofs.WriterLaws.{wrote-nothing}
+use Rattle.profile.proofs.version_field.put_version.Statement.{statement}
+use Rattle.profile.proofs.version_field.put_version.Tie as tie
+
+enum-told : tie.Need-enum-told
+enum-told c = search needs
+
+enum-known-version : tie.Need-enum-known-version
+enum-known-version c = search needs
+
+slice-aggregate-put-decimal : tie.Need-slice-aggregate-put-decimal
+slice-aggregate-put-decimal c = search needs
+
+put-decimal-requires : tie.Need-put-decimal-requires
+put-decimal-requires c κs =
+    let v = c .before .before .before in
+    rw (v .version .given .1) at (v .before .before .before .pre)
+
+returns : tie.Need-returns
+returns c = rw (c .enum-told .given .1) (wrote-nothing (now (c .before .before .before .args .out)))
+
+same-length : tie.Need-same-length
+same-length c = search needs
+
+returns-2 : tie.Need-returns-2
+returns-2 c =
+    let d = c .before .before in
+    rw (d .before .before .before .before .version .given .1) (d .put-decimal .ensures)
+
+pub put-version-spec : {M : Type 1} → statement M
+put-version-spec =
+    tie.close
+    (tie.spec
+    enum-told
+    enum-known-version
+    slice-aggregate-put-decimal
+    put-decimal-requires
+    returns
+    same-length
+    returns-2)

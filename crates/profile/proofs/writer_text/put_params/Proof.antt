@@ -1,0 +1,51 @@
+-- `profile::writer_text::put_params` meets its contract. Assumes nothing.
+use Prim.Native.Nat.{ℕ, _≤_}
+use mathlib.Core.List.{List}
+use native.Mathlib.Omega.{arith}
+use borrow.Author.Needs.{needs}
+use denote.Ref.{now}
+use lib.ListN.{length}
+use Rattle.profile.specs.WriterSteps.{itemsText}
+use Rattle.profile.proofs.Texts.{dollared-length}
+use Rattle.profile.proofs.WriterLaws.{wrote-none, wrote-dollar, wrote-length}
+use Rattle.profile.proofs.writer_text.put_params.Statement.{statement}
+use Rattle.profile.proofs.writer_text.put_params.Tie as tie
+
+abbrev items : tie.Start → List ℕ
+items s = itemsText (s .args .limits) (s .args .n) (now (s .args .keyid)) (now (s .args .ad))
+
+abbrev start : tie.After-put-items → tie.Start
+start c = c .before .before .before .before .before
+
+fits : (s : tie.Start) → length (items s) ≤ length (now (s .args .out))
+fits s = omega (arith, dollared-length (items s), s .pre)
+
+put-items-requires : tie.Need-put-items-requires
+put-items-requires c κs = fits (c .before .before .before .before)
+
+same-length : tie.Need-same-length
+same-length c = search needs
+
+returns : tie.Need-returns
+returns c =
+    let w = c .before .before .before in
+    wrote-none (now (start w .args .out)) _ (items (start w)) (w .put-items .result) (c .if1 .taken) (w .put-items .ensures)
+
+slice-write-out : tie.Need-slice-write-out
+slice-write-out c =
+    let w = c .before .before .before in
+    let s = start w in
+    omega (arith, c .if1 .left, w .put-items .ensures .count-is, fits s, wrote-length (now (s .args .out)) _ (items s) (w .put-items .result) (fits s) (w .put-items .ensures))
+
+same-length-2 : tie.Need-same-length-2
+same-length-2 c = search needs
+
+returns-2 : tie.Need-returns-2
+returns-2 c =
+    let w = c .before .before .before in
+    wrote-dollar (now (start w .args .out)) _ (items (start w)) (w .put-items .result) (c .if1 .left) (w .put-items .ensures)
+
+pub put-params-spec : {M : Type 1} → statement M
+put-params-spec =
+    tie.close
+    (tie.spec put-items-requires same-length returns slice-write-out same-length-2 returns-2)

@@ -1,0 +1,57 @@
+-- The computed tests that a table of limits has to pass for the claims to hold of it.
+-- Assumes nothing.
+use Prim.Native.Nat.{ℕ, suc, _*_}
+use mathlib.Core.Bool.{Bool, true, not, _&&_, _||_}
+use mathlib.Core.List.{List, [], _∷_}
+use lib.Dec.{leb, eqb}
+use Rattle.grammar.specs.Text.{within, all}
+use Rattle.grammar.specs.Units.{charsOf}
+use Rattle.grammar.specs.Limits.{longestValue, largestVersion}
+use Rattle.grammar.specs.Rules.{isName}
+use Rattle.profile.specs.declared.limits.NumberRule.{NumberRule}
+use Rattle.profile.specs.declared.limits.NumberRule.the-variants.{Needed, Omitted, Fixed}
+use Rattle.profile.specs.declared.limits.BytesRule.{BytesRule}
+use Rattle.profile.specs.declared.limits.BytesRule.the-variants.{Sized, Barred}
+use Rattle.profile.specs.Limits.{Profile, inRange, versionAllowed, idOf, largest32}
+
+-- f passes at each entry and its number, counted from k
+abbrev pub every : (ℕ → Profile → Bool) → ℕ → List Profile → Bool
+every f k [] = true
+every f k (r ∷ rs) = f k r && every f (suc k) rs
+
+-- numbers of 32 bits; what is left out is permitted
+abbrev pub soundNumber : NumberRule → Bool
+soundNumber (Needed low high) = leb high largest32
+soundNumber (Omitted low high given) = leb high largest32 && within low high given
+soundNumber (Fixed given) = true
+
+-- byte strings whose text the grammar takes
+abbrev pub soundBytes : BytesRule → Bool
+soundBytes (Sized low high) = leb (charsOf (high .0)) longestValue
+soundBytes Barred = true
+
+-- version numbers that the grammar takes
+abbrev pub soundVersions : List ℕ → Bool
+soundVersions vs = all (within 0 largestVersion) vs
+
+-- the entry at k has an id of its own, and limits within what the grammar takes
+abbrev pub soundAt : List Profile → ℕ → Profile → Bool
+soundAt e k r =
+    not (r .known) || (eqb (idOf e (r .name)) k
+    && (isName (r .name)
+    && (soundVersions (r .versions)
+    && (soundNumber (r .m)
+    && (soundNumber (r .t) && (soundNumber (r .p) && (soundBytes (r .keyid) && (soundBytes (r .ad) && (soundBytes (r .salt) && soundBytes (r .output))))))))))
+
+unfoldable pub sound : List Profile → Bool
+sound e = every (soundAt e) 1 e
+
+-- the short writer's numbers are permitted
+abbrev pub usualAt : ℕ → Profile → Bool
+usualAt k r =
+    let u = r .usual in
+    not (r .known) || (versionAllowed r (u .version)
+    && (inRange (r .m) (u .m) && (inRange (r .t) (u .t) && (inRange (r .p) (u .p) && leb (8 * u .p) (u .m)))))
+
+unfoldable pub usualSound : List Profile → Bool
+usualSound e = every usualAt 1 e

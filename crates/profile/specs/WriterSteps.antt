@@ -1,0 +1,79 @@
+-- What the private steps of the writer promise each other. Nothing here is a rule: no public contract cites it.
+-- Assumes nothing.
+use Prim.Native.Nat.{ℕ, _+_}
+use mathlib.Core.Path.{_≡_}
+use mathlib.Core.List.{List, [], _∷_, _++_}
+use mathlib.Core.Option.{none, some}
+use lib.ListN.{length}
+use Rattle.grammar.specs.Text.{text}
+use Rattle.grammar.specs.Place.{over}
+use Rattle.grammar.specs.Pieces.{Slot}
+use Rattle.profile.specs.Fields.{FieldSet, writeNumber, writeBytes, writeVersion}
+use Rattle.profile.specs.declared.fields.Fields.{Fields}
+use Rattle.profile.specs.declared.limits.Limits.{Limits}
+
+-- a text that may not be there, with its tag before it
+abbrev pub tagged : List ℕ → Slot → List ℕ
+tagged tag none = []
+tagged tag (some t) = tag ++ t
+
+-- its length, where the tag has so many bytes
+abbrev pub taggedLength : ℕ → Slot → ℕ
+taggedLength tag none = 0
+taggedLength tag (some t) = tag + length t
+
+-- the numbers as items, each with a comma before it
+abbrev pub costsText : Limits → Fields → List ℕ
+costsText l n =
+    tagged (text ",m=") (writeNumber (l .m) (n .m))
+    ++ tagged (text ",t=") (writeNumber (l .t) (n .t))
+    ++ tagged (text ",p=") (writeNumber (l .p) (n .p))
+
+-- and keyid and data
+abbrev pub itemsText : Limits → Fields → List ℕ → List ℕ → List ℕ
+itemsText l n keyid ad =
+    costsText l n
+    ++ tagged (text ",keyid=") (writeBytes keyid)
+    ++ tagged (text ",data=") (writeBytes ad)
+
+-- a `$` in place of the first comma
+abbrev pub dollared : List ℕ → List ℕ
+dollared [] = []
+dollared (c ∷ s) = 36 ∷ s
+
+-- the pieces before the salt
+abbrev pub headText : Limits → List ℕ → Fields → List ℕ → List ℕ → List ℕ
+headText l name n keyid ad =
+    (36 ∷ name)
+    ++ tagged (text "$") (writeVersion (n .version))
+    ++ dollared (itemsText l n keyid ad)
+
+-- the whole string
+abbrev pub piecesText : Limits → List ℕ → FieldSet → List ℕ
+piecesText l name f =
+    headText l name (f .numbers) (f .keyid) (f .ad)
+    ++ tagged (text "$") (writeBytes (f .salt))
+    ++ tagged (text "$") (writeBytes (f .output))
+
+-- ---- lengths
+
+abbrev pub costsLength : Limits → Fields → ℕ
+costsLength l n =
+    taggedLength 3 (writeNumber (l .m) (n .m))
+    + taggedLength 3 (writeNumber (l .t) (n .t))
+    + taggedLength 3 (writeNumber (l .p) (n .p))
+
+abbrev pub piecesLength : Limits → ℕ → FieldSet → ℕ
+piecesLength l name f =
+    1 + name
+    + taggedLength 1 (writeVersion (f .numbers .version))
+    + costsLength l (f .numbers)
+    + taggedLength 7 (writeBytes (f .keyid))
+    + taggedLength 6 (writeBytes (f .ad))
+    + taggedLength 1 (writeBytes (f .salt))
+    + taggedLength 1 (writeBytes (f .output))
+
+-- a text was put at the start of a buffer, and counted
+pub record Wrote (t before after : List ℕ) (count : ℕ) : Type 0 where
+  pub count-is : count ≡ length t
+  pub left : after ≡ over before 0 t

@@ -1,0 +1,67 @@
+// A tag and a text after it, at the start of a buffer: the tags are `$`, `$v=`, and a comma with a parameter's name and `=`.
+use grammar::b64::encode;
+use grammar::decimal::write_decimal;
+use grammar::place::write_text;
+use grammar::units::Bytes;
+use grammar::units::encoded_len;
+ghost use Prim.Native.Nat.{_+_, _≤_};
+ghost use mathlib.Core.Path.{_≡_};
+ghost use mathlib.Core.List.{_++_};
+ghost use lib.ListN.{length};
+ghost use Rattle.grammar.specs.Decimal.{digits};
+ghost use Rattle.profile.specs.Fields.{writeBytes};
+ghost use Rattle.profile.specs.Claims.{room};
+ghost use Rattle.profile.specs.WriterSteps.{tagged, taggedLength, Wrote};
+
+// A text alone.
+pub fn put_text(text: &[u8], out: &mut [u8]) -> usize
+    requires { ⌜ length (now text) ≤ length (now out) ⌝ }
+    ensures { λ r. ⌜ Wrote (now (text .entry)) (now (out .entry)) (now (out .exit)) r ⌝ }
+{
+    let w = write_text(text, out, 0);
+    w.count.0
+}
+
+// A number after its tag.
+pub fn put_decimal(tag: &[u8], n: u32, out: &mut [u8]) -> usize
+    requires { ⌜ length (now tag ++ digits n) ≤ length (now out) ⌝ }
+    ensures { λ r. ⌜ Wrote (now (tag .entry) ++ digits n) (now (out .entry)) (now (out .exit)) r ⌝ }
+{
+    let at = put_text(tag, out);
+    let w = write_decimal(n as i64, out, at);
+    at + w.count.0
+}
+
+// The length of a number after a tag of so many bytes.
+pub fn decimal_len(tag: usize, n: u32) -> usize
+    requires { ⌜ tag ≤ room ⌝ }
+    ensures { λ r. ⌜ r ≡ tag + length (digits n) ⌝ }
+{
+    let text = grammar::decimal::decimal_len(n as i64);
+    tag + text.0
+}
+
+// A byte string after its tag; nothing where it is empty.
+pub fn put_bytes(tag: &[u8], bytes: &[u8], out: &mut [u8]) -> usize
+    requires { ⌜ length (tagged (now tag) (writeBytes (now bytes))) ≤ length (now out) ⌝ }
+    ensures { λ r. ⌜ Wrote (tagged (now (tag .entry)) (writeBytes (now (bytes .entry)))) (now (out .entry)) (now (out .exit)) r ⌝ }
+{
+    if bytes.len() == 0 {
+        return 0;
+    }
+    let at = put_text(tag, out);
+    let w = encode(bytes, out, at);
+    at + w.count.0
+}
+
+// The length of a byte string after a tag of so many bytes.
+pub fn bytes_len(tag: usize, bytes: &[u8]) -> usize
+    requires { ⌜ taggedLength tag (writeBytes (now bytes)) ≤ room ⌝ }
+    ensures { λ r. ⌜ r ≡ taggedLength tag (writeBytes (now (bytes .entry))) ⌝ }
+{
+    if bytes.len() == 0 {
+        return 0;
+    }
+    let text = encoded_len(Bytes(bytes.len()));
+    tag + text.0
+}

@@ -1,0 +1,31 @@
+// The version: its piece's text, and its length.
+use crate::fields::Version;
+use crate::tagged::decimal_len;
+use crate::tagged::put_decimal;
+ghost use Prim.Native.Nat.{_≤_};
+ghost use mathlib.Core.Path.{_≡_};
+ghost use lib.ListN.{length};
+ghost use Rattle.grammar.specs.Text.{text};
+ghost use Rattle.profile.specs.Fields.{writeVersion};
+ghost use Rattle.profile.specs.WriterSteps.{tagged, taggedLength, Wrote};
+
+// The length of the version piece with its `$`; nothing where the version is absent.
+pub fn version_len(version: Version) -> usize
+    ensures { λ r. ⌜ r ≡ taggedLength 1 (writeVersion version) ⌝ }
+{
+    match version {
+        Version::Absent => 0,
+        Version::Number(n) => decimal_len(3, n),
+    }
+}
+
+// Puts the version piece with its `$` at the start of a buffer; nothing where the version is absent.
+pub fn put_version(version: Version, out: &mut [u8]) -> usize
+    requires { ⌜ length (tagged (text "$") (writeVersion version)) ≤ length (now out) ⌝ }
+    ensures { λ r. ⌜ Wrote (tagged (text "$") (writeVersion version)) (now (out .entry)) (now (out .exit)) r ⌝ }
+{
+    match version {
+        Version::Absent => 0,
+        Version::Number(n) => put_decimal(b"$v=", n, out),
+    }
+}

@@ -1,0 +1,87 @@
+// The writer: the one string of permitted fields, into a lent buffer from a place on; and the short writer, which takes the usual costs.
+use crate::fields::Fields;
+use crate::fields::Version;
+use crate::limits::limits_of;
+use crate::writer_rows::refusal_of;
+use crate::writer_text::put_string;
+use crate::writer_text::string_len;
+use grammar::place::Written;
+use grammar::place::has_room;
+use grammar::units::Chars;
+ghost use mathlib.Core.Path.{_≡_};
+ghost use mathlib.Core.List.{[]};
+ghost use Rattle.grammar.specs.Place.{outcome};
+ghost use Rattle.profile.specs.Limits.{editionTwo};
+ghost use Rattle.profile.specs.Fields.{fieldSet};
+ghost use Rattle.profile.specs.Writer.{shortFields};
+ghost use Rattle.profile.specs.Entries.{writing, shortWriting};
+
+// Writes the string of the fields into `buf` from `at` on; the count is its length. 8, 9, 11, 12, 14, 15, 16, then 17.
+pub fn write(
+    n: Fields,
+    keyid: &[u8],
+    data: &[u8],
+    salt: &[u8],
+    output: &[u8],
+    buf: &mut [u8],
+    at: usize,
+) -> Written
+    ensures { λ r. ⌜ outcome (r .number) (r .count .0) (now (buf .exit)) ≡ writing editionTwo (fieldSet n (now (keyid .entry)) (now («data» .entry)) (now (salt .entry)) (now (output .entry))) (now (buf .entry)) at ⌝ }
+{
+    let number = refusal_of(n, keyid, data, salt, output);
+    if number != 0 {
+        return Written {
+            number,
+            count: Chars(0),
+        };
+    }
+    let limits = limits_of(n.id);
+    let count = string_len(limits, n, keyid, data, salt, output);
+    if !has_room(buf.len(), at, count) {
+        return Written {
+            number: 17,
+            count: Chars(0),
+        };
+    }
+    put_string(limits, n, keyid, data, salt, output, &mut buf[at..]);
+    Written {
+        number: 0,
+        count: Chars(count),
+    }
+}
+
+// The number fields that the short writer uses.
+fn usual_fields(id: u8) -> Fields
+    ensures { λ r. ⌜ r ≡ shortFields editionTwo id [] [] .numbers ⌝ }
+{
+    match id {
+        1..=3 => Fields {
+            id,
+            version: Version::Number(19),
+            m: 65536,
+            t: 2,
+            p: 1,
+        },
+        4..=5 => Fields {
+            id,
+            version: Version::Absent,
+            m: 0,
+            t: 20000,
+            p: 0,
+        },
+        _ => Fields {
+            id,
+            version: Version::Absent,
+            m: 0,
+            t: 0,
+            p: 0,
+        },
+    }
+}
+
+// Writes the string of an id, a salt and an output, with the profile's usual costs and no keyid or data. 8, 14, 15, 16, then 17.
+pub fn write_short(id: u8, salt: &[u8], output: &[u8], buf: &mut [u8], at: usize) -> Written
+    ensures { λ r. ⌜ outcome (r .number) (r .count .0) (now (buf .exit)) ≡ shortWriting editionTwo id (now (salt .entry)) (now (output .entry)) (now (buf .entry)) at ⌝ }
+{
+    write(usual_fields(id), b"", b"", salt, output, buf, at)
+}
