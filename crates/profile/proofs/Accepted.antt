@@ -25,7 +25,7 @@ use Rattle.grammar.proofs.ItemLaws.{item-value, params-items}
 use Rattle.grammar.proofs.PieceLaws.{string-pieces}
 use Rattle.grammar.proofs.Reading.{whole-starts}
 use Rattle.profile.specs.declared.limits.BytesRule.{BytesRule}
-use Rattle.profile.specs.Limits.{Profile, idOf, profileOf, versionAllowed}
+use Rattle.profile.specs.Limits.{Profile, idOf, profileOf, versionAllowed, limitsOf}
 use Rattle.profile.specs.Fields.{isSized, isBytes, readBytes, writeBytes, readVersion}
 use Rattle.profile.specs.Reader.{names, named, itemValue, slots, strangers, slotAt, misplaced, profileRows, answer, carried, fieldsOf}
 use Rattle.profile.specs.Writer.{Permitted, itemList, fieldSlots, fieldPieces, formatted}
@@ -111,7 +111,7 @@ module _ (e : List Profile) (ok : sound e ≡ true) where
       → Clear (pieceRows p) → Clear (profileRows e p)
       → Permitted e (carried e p) × (fieldPieces e (carried e p) ≡ p)
   unfolding fieldPieces
-  back p v a (g2, (g3, (g4, (g5, (g6, (g7, g)))))) (r8, (r9, (r10, (r11, (r12, (r13, (r14, (r15, u)))))))) =
+  back p v a (g2, (g3, (g4, (g5, (g6, (g7, g)))))) (r8, (r9, (r10, (m₁, (t₁, (p₁, (lanes, (keyid₁, (ad₁, (m₂, (t₂, (p₂, (r14, (r15, u)))))))))))))) =
       let is = itemsOf (p .params) in
       let vs = slots names is in
       let k = idOf e (p .id) in
@@ -120,22 +120,16 @@ module _ (e : List Profile) (ok : sound e ≡ true) where
       let E = entry-at e ok k (N .1) in
       let P = params-all (p .params) g4 in
       let G = slots-good names is (P .0) in
-      let s10 = neither (not (empty (strangers names is))) (misplaced r vs) r10 in
+      let s10 = neither (not (empty (strangers names is))) (misplaced (limitsOf r) vs) r10 in
       let place₄ = neither _ _ (s10 .1) in
       let place₃ = neither _ _ (place₄ .0) in
       let place₂ = neither _ _ (place₃ .0) in
       let place₁ = neither _ _ (place₂ .0) in
-      let s11 = neither _ _ r11 in
-      let number₂ = neither _ _ (s11 .0) in
-      let number₁ = neither _ _ (number₂ .0) in
-      let s12 = neither _ _ r12 in
-      let short₂ = neither _ _ r13 in
-      let short₁ = neither _ _ (short₂ .0) in
-      let m = number-back (r .m) (slotAt vs 0) (E .m) (place₁ .0) (number₁ .0) (short₁ .0) in
-      let t = number-back (r .t) (slotAt vs 1) (E .t) (place₁ .1) (number₁ .1) (short₁ .1) in
-      let l = number-back (r .p) (slotAt vs 2) (E .p) (place₂ .1) (number₂ .1) (short₂ .1) in
-      let keyid = bytes-back (r .keyid) (slotAt vs 3) (G .1 .1 .1 .0) (s12 .0) in
-      let ad = bytes-back (r .ad) (slotAt vs 4) (G .1 .1 .1 .1 .0) (s12 .1) in
+      let m = number-back (r .m) (slotAt vs 0) (E .m) (place₁ .0) m₁ m₂ in
+      let t = number-back (r .t) (slotAt vs 1) (E .t) (place₁ .1) t₁ t₂ in
+      let l = number-back (r .p) (slotAt vs 2) (E .p) (place₂ .1) p₁ p₂ in
+      let keyid = bytes-back (r .keyid) (slotAt vs 3) (G .1 .1 .1 .0) keyid₁ in
+      let ad = bytes-back (r .ad) (slotAt vs 4) (G .1 .1 .1 .1 .0) ad₁ in
       let salt = bytes-back (r .salt) (p .salt) g5 r14 in
       let o = output-bytes (r .output) (p .output) g6 r15 in
       let output = bytes-back (r .output) (p .output) (o .0) (o .1) in
@@ -151,7 +145,7 @@ module _ (e : List Profile) (ok : sound e ≡ true) where
           m = m .0;
           t = t .0;
           p = l .0;
-          lanes = ltb-false _ _ (s11 .1);
+          lanes = ltb-false _ _ lanes;
           keyid = keyid .0;
           ad = ad .0;
           salt = salt .0;

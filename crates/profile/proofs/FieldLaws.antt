@@ -1,17 +1,18 @@
 -- One number, one byte string, at a span that may hold nothing: what the code's tests and reads say of the slot there.
 -- Assumes nothing.
 use Prim.Native.Nat.{ℕ}
-use mathlib.Core.Bool.{Bool, true, false, not, cond, true≢false, Bool·not-not}
+use mathlib.Core.Bool.{Bool, true, false, not, cond, true≢false}
 use mathlib.Core.Path.{_≡_, refl, sym, ap}
 use mathlib.Core.List.{List}
 use mathlib.Core.Option.{none, some}
 use lib.Dec.{eqb}
-use Rattle.grammar.specs.Text.{broken}
+use Rattle.grammar.specs.Rules.{firstOf}
 use Rattle.grammar.specs.Parts.{partAt}
 use Rattle.grammar.specs.Numerals.{limitedValue}
 use Rattle.grammar.specs.declared.pieces.Span.{Span}
 use Rattle.profile.proofs.SlotLaws.{slot-some}
-use Rattle.profile.specs.Fields.{numberReading, isNumber, misplacedNumber, readNumber, writtenOut, misplacedBytes}
+use Rattle.profile.specs.Reader.{numberRow}
+use Rattle.profile.specs.Fields.{numberReading, misplacedNumber, readNumber, writtenOut, misplacedBytes}
 use Rattle.profile.specs.ReaderSteps.{slotIn}
 use Rattle.profile.specs.declared.limits.NumberRule.{NumberRule}
 use Rattle.profile.specs.declared.limits.NumberRule.the-variants.{Needed, Omitted, Fixed}
@@ -42,8 +43,8 @@ module _ (s : List ℕ) (w : Span) where
       go false = refl
 
   pub number-there : (r : NumberRule) → (w .at ≡ 0 → ⊥) → misplacedNumber r (slotIn s w) ≡ false
-      → (isNumber r (partAt s w) ≡ not (broken (isNumber r) (slotIn s w))) × (limitedValue (numberReading r (partAt s w)) ≡ readNumber r (slotIn s w))
-  number-there r z h = rw (slot-some s w z) (sym (Bool·not-not (isNumber r (partAt s w))), read-there r (partAt s w) (rw (slot-some s w z) at h))
+      → (firstOf (numberRow r (some (partAt s w))) ≡ firstOf (numberRow r (slotIn s w))) × (limitedValue (numberReading r (partAt s w)) ≡ readNumber r (slotIn s w))
+  number-there r z h = rw (slot-some s w z) (refl, read-there r (partAt s w) (rw (slot-some s w z) at h))
 
   pub omitted-there : (r : NumberRule) (low high given value : ℕ) → r ≡ Omitted low high given → (w .at ≡ 0 → ⊥)
       → value ≡ readNumber r (slotIn s w) → eqb value given ≡ writtenOut r (slotIn s w)

@@ -33,7 +33,7 @@ use Rattle.profile.specs.declared.fields.ByteString.the-variants.{Keyid,
 use Rattle.profile.specs.declared.judge.Judgement.{Judgement}
 use Rattle.profile.specs.declared.values.Values.{Values}
 use Rattle.profile.specs.declared.reader.Whole.{Whole}
-use Rattle.profile.specs.Limits.{Profile, idOf, profileOf, editionTwo}
+use Rattle.profile.specs.Limits.{Profile, idOf, profileOf, editionTwo, limitsOf}
 use Rattle.profile.specs.Fields.{chosen, isSized, isBytes, readNumber, readBytes, readVersion}
 use Rattle.profile.specs.Reader.{names, slots, strangers, slotAt, rowsFor, profileRows, answer, fieldsOf}
 use Rattle.profile.specs.Entries.{refusedReading, kindOf, reading, decoded}
@@ -142,7 +142,7 @@ found s z places e values id version i v w =
 module _ (s : List ℕ) (z : grammarNumber s ≡ 0) (places : Places) (values : Values) (id : ℕ) (version : Version)
     (f : Found s places values id version) (j : Judgement)
     (d : Judged (rowsFor editionTwo id version (slotsIn (partAt s (places .params)) values) (values .strange) (slotIn s (places .salt)) (slotIn s (places .output)))
-    (profileOf editionTwo id) (slotsIn (partAt s (places .params)) values) j) where
+    (limitsOf (profileOf editionTwo id)) (slotsIn (partAt s (places .params)) values) j) where
   same-rows : rowsFor editionTwo id version (slotsIn (partAt s (places .params)) values) (values .strange) (slotIn s (places .salt)) (slotIn s (places .output))
       ≡ profileRows editionTwo (pieces s)
   same-rows = λ i. rowsFor editionTwo (f .id-is i) (f .version-is i) (f .slots-are i) (f .strange-is i) (f .salt-is i) (f .output-is i)
@@ -159,10 +159,10 @@ module _ (s : List ℕ) (z : grammarNumber s ≡ 0) (places : Places) (values : 
   unfolding reading fieldsOf
   accepted-reading q k kinds =
       let a : answer editionTwo s ≡ 0 = judged-number ∙ q in
-      let n = no-row q in
-      let m : j .m ≡ fieldsOf editionTwo s .numbers .m = d .m-is n ∙ (λ i. readNumber (profileOf editionTwo (f .id-is i) .m) (slotAt (f .slots-are i) 0)) in
-      let t : j .t ≡ fieldsOf editionTwo s .numbers .t = d .t-is n ∙ (λ i. readNumber (profileOf editionTwo (f .id-is i) .t) (slotAt (f .slots-are i) 1)) in
-      let p : j .p ≡ fieldsOf editionTwo s .numbers .p = d .p-is n ∙ (λ i. readNumber (profileOf editionTwo (f .id-is i) .p) (slotAt (f .slots-are i) 2)) in
+      let n = d .numbers-are (no-row q) in
+      let m : j .m ≡ fieldsOf editionTwo s .numbers .m = n .m-is ∙ (λ i. readNumber (profileOf editionTwo (f .id-is i) .m) (slotAt (f .slots-are i) 0)) in
+      let t : j .t ≡ fieldsOf editionTwo s .numbers .t = n .t-is ∙ (λ i. readNumber (profileOf editionTwo (f .id-is i) .t) (slotAt (f .slots-are i) 1)) in
+      let p : j .p ≡ fieldsOf editionTwo s .numbers .p = n .p-is ∙ (λ i. readNumber (profileOf editionTwo (f .id-is i) .p) (slotAt (f .slots-are i) 2)) in
       let c : k ≡ kindOf (pieces s .salt) (pieces s .output) = kinds s ∙ (λ i. kindOf (f .salt-is i) (f .output-is i)) in
       rw a (λ i. record { number = 0; kind = c i; fields = record { id = f .id-is i; version = f .version-is i; m = m i; t = t i; p = p i } })
 
@@ -182,8 +182,15 @@ module _ (s : List ℕ) (z : grammarNumber s ≡ 0) (places : Places) (values : 
       r : Profile
       r = profileOf editionTwo (idOf editionTwo (pieces s .id))
 
-      strings : (broken (isBytes (r .keyid)) (slotAt vs 3) ≡ false) × (broken (isBytes (r .ad)) (slotAt vs 4) ≡ false)
-      strings = neither (broken (isBytes (r .keyid)) (slotAt vs 3)) (broken (isBytes (r .ad)) (slotAt vs 4)) (rows .1 .1 .1 .1 .0)
+      -- the rows of keyid and data, and of the salt
+      keyid-row : broken (isBytes (r .keyid)) (slotAt vs 3) ≡ false
+      keyid-row = rows .1 .1 .1 .1 .1 .1 .1 .0
+
+      ad-row : broken (isBytes (r .ad)) (slotAt vs 4) ≡ false
+      ad-row = rows .1 .1 .1 .1 .1 .1 .1 .1 .0
+
+      salt-row : broken (isBytes (r .salt)) (pieces s .salt) ≡ false
+      salt-row = rows .1 .1 .1 .1 .1 .1 .1 .1 .1 .1 .1 .1 .0
 
       -- a slot that is the one of the rules
       by : (o u : Slot) → o ≡ u → canonical (textOf u) ≡ true → (canonical (textOf o) ≡ true) × (decode (textOf o) ≡ readBytes u)
@@ -196,9 +203,9 @@ module _ (s : List ℕ) (z : grammarNumber s ≡ 0) (places : Places) (values : 
       w = record { reading = reading-was; places = places; values = values }
 
       pick : (c : ByteString) → (canonical (chosenText s w c) ≡ true) × (decode (chosenText s w c) ≡ chosen c (fieldsOf editionTwo s))
-      pick Keyid = by _ (slotAt vs 3) (at 3) (canonical-slot (r .keyid) (slotAt vs 3) (strings .0))
-      pick Data = by _ (slotAt vs 4) (at 4) (canonical-slot (r .ad) (slotAt vs 4) (strings .1))
-      pick Salt = by _ (pieces s .salt) (f .salt-is) (canonical-slot (r .salt) (pieces s .salt) (rows .1 .1 .1 .1 .1 .1 .0))
+      pick Keyid = by _ (slotAt vs 3) (at 3) (canonical-slot (r .keyid) (slotAt vs 3) keyid-row)
+      pick Data = by _ (slotAt vs 4) (at 4) (canonical-slot (r .ad) (slotAt vs 4) ad-row)
+      pick Salt = by _ (pieces s .salt) (f .salt-is) (canonical-slot (r .salt) (pieces s .salt) salt-row)
       pick Output = by _ (pieces s .output) (f .output-is) (canonical-output (pieces s .output) (accepted-rows s z .1 .1 .1 .1 .1 .0))
 
 -- ---- what a reading that refuses, and one that accepts, leaves to the byte-string entry

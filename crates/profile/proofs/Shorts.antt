@@ -4,12 +4,14 @@
 use Prim.Native.Nat.{ℕ}
 use mathlib.Core.Bool.{Bool, true, false}
 use mathlib.Core.List.{List, []}
-use mathlib.Core.Path.{_≡_, refl, sym, _∙_}
+use mathlib.Core.Path.{_≡_, refl, sym, ap, _∙_}
 use borrow.Author.Tests.{le-ltb}
 use Rattle.grammar.specs.Text.{all}
 use Rattle.grammar.specs.Bytes.{isByte}
+use Rattle.grammar.specs.Place.{putAfter}
 use Rattle.profile.specs.Limits.{Profile, profileOf, editionTwo}
-use Rattle.profile.specs.Writer.{Permitted, refusal, shortFields, shortRefusal}
+use Rattle.profile.specs.Writer.{Permitted, refusal, formatted, shortFields, shortRefusal}
+use Rattle.profile.specs.Claims.{ShortAgrees}
 use Rattle.profile.specs.Fields.{fieldSet}
 use Rattle.profile.specs.Entries.{writing, shortWriting}
 use Rattle.profile.specs.declared.fields.Fields.{Fields}
@@ -18,7 +20,7 @@ use Rattle.profile.proofs.Table.{usual-at, edition-two-usual}
 use Rattle.profile.proofs.Demand3.{permitted}
 
 module _ (e : List Profile) (ok : usualSound e ≡ true) (k : ℕ) (salt output : List ℕ) where
-  pub short-number : shortRefusal e k salt output ≡ refusal e (shortFields e k salt output)
+  short-number : shortRefusal e k salt output ≡ refusal e (shortFields e k salt output)
   unfolding refusal shortFields shortRefusal
   short-number = go (profileOf e k .known) refl
     where
@@ -26,19 +28,24 @@ module _ (e : List Profile) (ok : usualSound e ≡ true) (k : ℕ) (salt output 
       go true q = let u = usual-at e ok k q in rw (u .version, u .m, u .t, u .p, le-ltb _ _ (u .lanes), q)
       go false q = rw q
 
-  pub short-permitted : shortRefusal e k salt output ≡ 0 → all isByte salt ≡ true → all isByte output ≡ true → Permitted e (shortFields e k salt output)
+  short-permitted : shortRefusal e k salt output ≡ 0 → all isByte salt ≡ true → all isByte output ≡ true → Permitted e (shortFields e k salt output)
   unfolding shortFields
   short-permitted z s o = permitted e (shortFields e k salt output) (sym short-number ∙ z) (refl, refl, s, o)
 
-pub short-number-two : (k : ℕ) (salt output : List ℕ) → shortRefusal editionTwo k salt output ≡ refusal editionTwo (shortFields editionTwo k salt output)
-short-number-two = short-number editionTwo edition-two-usual
+  short-writing : (buffer : List ℕ) (at : ℕ) → shortWriting e k salt output buffer at ≡ writing e (shortFields e k salt output) buffer at
+  unfolding writing shortWriting
+  short-writing buffer at = ap (λ (n : ℕ). putAfter n buffer at (formatted e (shortFields e k salt output))) short-number
 
-pub short-permitted-two : (k : ℕ) (salt output : List ℕ) → shortRefusal editionTwo k salt output ≡ 0 → all isByte salt ≡ true → all isByte output ≡ true
-    → Permitted editionTwo (shortFields editionTwo k salt output)
-short-permitted-two = short-permitted editionTwo edition-two-usual
+pub short-agrees : (e : List Profile) → usualSound e ≡ true → ShortAgrees e
+short-agrees e ok =
+    record { writes = λ k salt output buffer at. short-writing e ok k salt output buffer at; permitted = λ k salt output z s o. short-permitted e ok k salt output z s o }
 
--- the short writer is the writer, given the short writer's fields
-pub short-writing : (k : ℕ) (salt output buffer : List ℕ) (at : ℕ) (n : Fields) → n ≡ shortFields editionTwo k [] [] .numbers
+pub short-agrees-two : ShortAgrees editionTwo
+short-agrees-two = short-agrees editionTwo edition-two-usual
+
+-- the short writer as the code has it: a call of the writer with the usual numbers
+pub short-by : (k : ℕ) (salt output buffer : List ℕ) (at : ℕ) (n : Fields) → n ≡ shortFields editionTwo k [] [] .numbers
     → writing editionTwo (fieldSet n [] [] salt output) buffer at ≡ shortWriting editionTwo k salt output buffer at
-unfolding shortFields writing shortWriting
-short-writing k salt output buffer at n e = rw (e, short-number-two k salt output)
+unfolding shortFields
+short-by k salt output buffer at n e =
+    ap (λ (f : Fields). writing editionTwo (fieldSet f [] [] salt output) buffer at) e ∙ sym (short-agrees-two .writes k salt output buffer at)

@@ -273,10 +273,16 @@ module _ (e : List Profile) (ok : sound e ≡ true) where
           (
             or-false (or-false (or-false (or-false (h .m .placed) (h .t .placed)) (h .p .placed)) (h .keyid .placed)) (h .ad .placed),
             (
-              or-false (or-false (or-false (h .m .number) (h .t .number)) (h .p .number)) (rw (h .m .reads, h .p .reads) (le-ltb (n .m) (8 * n .p) (h .lanes))),
+              h .m .number,
               (
-                or-false (h .keyid .bytes) (h .ad .bytes),
-                (or-false (or-false (h .m .short) (h .t .short)) (h .p .short), (h .salt .bytes, (h .output .sized, tt))),
+                h .t .number,
+                (
+                  h .p .number,
+                  (
+                    rw (h .m .reads, h .p .reads) (le-ltb (n .m) (8 * n .p) (h .lanes)),
+                    (h .keyid .bytes, (h .ad .bytes, (h .m .short, (h .t .short, (h .p .short, (h .salt .bytes, (h .output .sized, tt))))))),
+                  ),
+                ),
               ),
             ),
           ),

@@ -1,18 +1,21 @@
 -- What is proved of the rules and of the entries' outcomes: proofs/Claims.antt has a value of each record.
 -- Assumes nothing.
 use Prim.Native.Nat.{ℕ, _+_, _*_, _≤_}
+use Prim.Native.String.{String}
 use mathlib.Core.Path.{_≡_}
-use mathlib.Core.Bool.{false}
-use mathlib.Core.List.{List}
+use mathlib.Core.Bool.{true, false}
+use mathlib.Core.List.{List, map}
 use mathlib.Core.Logic.{_↔_, _≢_}
 use lib.ListN.{length}
-use Rattle.grammar.specs.Text.{empty}
+use Rattle.grammar.specs.Text.{text, all, empty}
+use Rattle.grammar.specs.Bytes.{isByte}
 use Rattle.grammar.specs.Place.{outcome, over}
 use Rattle.profile.specs.Limits.{Profile, editionTwo}
 use Rattle.profile.specs.Fields.{FieldSet, chosen, writeBytes}
 use Rattle.profile.specs.Reader.{answer, fieldsOf}
-use Rattle.profile.specs.Writer.{OfBytes, Permitted, formatted}
-use Rattle.profile.specs.Entries.{reading, decoded, writing, kindOf}
+use Rattle.profile.specs.Writer.{OfBytes, Permitted, formatted, shortFields, shortRefusal}
+use Rattle.profile.specs.Entries.{reading, decoded, writing, shortWriting, kindOf}
+use Rattle.profile.specs.Strings.{sixteen, extremes}
 use Rattle.profile.specs.declared.fields.ByteString.{ByteString}
 
 -- demand 3, over the rules of an edition
@@ -58,6 +61,12 @@ pub record EntriesAgree (e : List Profile) : Type 0 where
   pub decodes : (f : FieldSet) → Permitted e f → (c : ByteString) (buffer : List ℕ) (at : ℕ) → at + length (chosen c f) ≤ length buffer
       → decoded e c (formatted e f) buffer at ≡ outcome 0 (length (chosen c f)) (over buffer at (chosen c f))
 
+-- the short writer gives what the writer gives for the profile's usual numbers, no keyid and no data; and where it writes, these are permitted
+pub record ShortAgrees (e : List Profile) : Type 0 where
+  pub writes : (k : ℕ) (salt output buffer : List ℕ) (at : ℕ) → shortWriting e k salt output buffer at ≡ writing e (shortFields e k salt output) buffer at
+  pub permitted : (k : ℕ) (salt output : List ℕ) → shortRefusal e k salt output ≡ 0 → all isByte salt ≡ true → all isByte output ≡ true
+      → Permitted e (shortFields e k salt output)
+
 -- the customer's own sentence: every accepted Argon2 string has at least one lane, and eight kilobytes for each
 pub record Lanes : Type 0 where
   pub lane : (s : List ℕ) → reading editionTwo s .number ≡ 0 → reading editionTwo s .fields .id ≤ 3
@@ -69,3 +78,8 @@ pub record Lengths : Type 0 where
   pub argon2-least : (f : FieldSet) → Permitted editionTwo f → f .numbers .id ≤ 3 → empty (f .output) ≡ false → 49 ≤ length (formatted editionTwo f)
   pub pbkdf2-most : (f : FieldSet) → Permitted editionTwo f → 4 ≤ f .numbers .id → length (formatted editionTwo f) ≤ 171
   pub pbkdf2-least : (f : FieldSet) → Permitted editionTwo f → 4 ≤ f .numbers .id → empty (f .output) ≡ false → 33 ≤ length (formatted editionTwo f)
+
+-- document 01's strings have their numbers; and strings that are accepted reach the bounds on lengths
+pub record Examples : Type 0 where
+  pub numbers : map (λ (x : String × ℕ). answer editionTwo (text (x .0))) sixteen ≡ map (λ (x : String × ℕ). x .1) sixteen
+  pub reached : map {B = ℕ × ℕ} (λ (x : String × ℕ). (answer editionTwo (text (x .0)), length (text (x .0)))) extremes ≡ map (λ (x : String × ℕ). (0, x .1)) extremes

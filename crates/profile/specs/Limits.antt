@@ -113,6 +113,13 @@ largest32 = 4294967295
 abbrev pub absentMeans : ℕ
 absentMeans = 19
 
+-- the short writer's numbers
+abbrev pub argon2Usual : Usual
+argon2Usual = record { version = Number 19; m = 65536; t = 2; p = 1 }
+
+abbrev pub pbkdf2Usual : Usual
+pbkdf2Usual = record { version = Absent; m = 0; t = 20000; p = 0 }
+
 -- m by itself is at least 1; that it is at least 8p is the row's
 abbrev pub argon2 : List ℕ → Profile
 argon2 name =
@@ -129,7 +136,7 @@ argon2 name =
       ad = sized 0 32;
       salt = sized 8 48;
       output = sized 12 64;
-      usual = record { version = Number 19; m = 65536; t = 2; p = 1 };
+      usual = argon2Usual;
     }
 
 abbrev pub pbkdf2 : List ℕ → Profile
@@ -147,7 +154,7 @@ pbkdf2 name =
       ad = Barred;
       salt = sized 4 32;
       output = sized 12 64;
-      usual = record { version = Absent; m = 0; t = 20000; p = 0 };
+      usual = pbkdf2Usual;
     }
 
 -- edition two: document 01's table

@@ -10,8 +10,10 @@ use Rattle.grammar.specs.Text.{text, same, empty, headIf, tailIf, broken}
 use Rattle.grammar.specs.Pieces.{Slot, Pieces, pieces}
 use Rattle.grammar.specs.Items.{Item, itemsOf}
 use Rattle.grammar.specs.Rules.{Row, row, firstOf, grammarRows}
-use Rattle.profile.specs.Limits.{Profile, versionAllowed, idOf, profileOf}
+use Rattle.profile.specs.Limits.{Profile, limitsOf, versionAllowed, idOf, profileOf}
 use Rattle.profile.specs.Fields.{FieldSet, isNumber, misplacedNumber, readNumber, writtenOut, misplacedBytes, isSized, isBytes, readBytes, readVersion}
+use Rattle.profile.specs.declared.limits.NumberRule.{NumberRule}
+use Rattle.profile.specs.declared.limits.Limits.{Limits}
 use Rattle.profile.specs.declared.fields.Version.{Version}
 
 -- ---- parameters by name, in order
@@ -39,43 +41,52 @@ strangers (n ∷ ns) is = strangers ns (tailIf (named n) is)
 abbrev pub slotAt : List Slot → ℕ → Slot
 slotAt vs k = getD vs k none
 
--- ---- the rows, of an entry r and the values vs of the names
+-- ---- the rows, of the limits l and the values vs of the names
 
 -- names missing or unknown to the profile
-abbrev pub misplaced : Profile → List Slot → Bool
-misplaced r vs =
-    misplacedNumber (r .m) (slotAt vs 0)
-    || misplacedNumber (r .t) (slotAt vs 1)
-    || misplacedNumber (r .p) (slotAt vs 2)
-    || misplacedBytes (r .keyid) (slotAt vs 3)
-    || misplacedBytes (r .ad) (slotAt vs 4)
+abbrev pub misplaced : Limits → List Slot → Bool
+misplaced l vs =
+    misplacedNumber (l .m) (slotAt vs 0)
+    || misplacedNumber (l .t) (slotAt vs 1)
+    || misplacedNumber (l .p) (slotAt vs 2)
+    || misplacedBytes (l .keyid) (slotAt vs 3)
+    || misplacedBytes (l .ad) (slotAt vs 4)
 
-abbrev pub badNumbers : Profile → List Slot → Bool
-badNumbers r vs =
-    broken (isNumber (r .m)) (slotAt vs 0)
-    || broken (isNumber (r .t)) (slotAt vs 1)
-    || broken (isNumber (r .p)) (slotAt vs 2)
-    || ltb (readNumber (r .m) (slotAt vs 0)) (8 * readNumber (r .p) (slotAt vs 2))
+-- a number: not a permitted decimal, or out of range
+abbrev pub numberRow : NumberRule → Slot → List Row
+numberRow r s = row 11 (broken (isNumber r) s) ∷ []
+
+-- m, t and p, then m < 8p
+abbrev pub numberRows : Limits → List Slot → List Row
+numberRows l vs =
+    numberRow (l .m) (slotAt vs 0)
+    ++ (numberRow (l .t) (slotAt vs 1)
+    ++ (numberRow (l .p) (slotAt vs 2)
+    ++ (row 11 (ltb (readNumber (l .m) (slotAt vs 0)) (8 * readNumber (l .p) (slotAt vs 2))) ∷ [])))
 
 -- keyid and data, then a number written out
-abbrev pub spellingRows : Profile → List Slot → List Row
-spellingRows r vs =
-    row 12 (broken (isBytes (r .keyid)) (slotAt vs 3) || broken (isBytes (r .ad)) (slotAt vs 4))
-    ∷ row 13 (writtenOut (r .m) (slotAt vs 0) || writtenOut (r .t) (slotAt vs 1) || writtenOut (r .p) (slotAt vs 2))
+abbrev pub spellingRows : Limits → List Slot → List Row
+spellingRows l vs =
+    row 12 (broken (isBytes (l .keyid)) (slotAt vs 3))
+    ∷ row 12 (broken (isBytes (l .ad)) (slotAt vs 4))
+    ∷ row 13 (writtenOut (l .m) (slotAt vs 0))
+    ∷ row 13 (writtenOut (l .t) (slotAt vs 1))
+    ∷ row 13 (writtenOut (l .p) (slotAt vs 2))
     ∷ []
 
 -- for the id's number k, the version, the values of the names, whether items are left, the salt and the output
 abbrev pub rowsFor : List Profile → ℕ → Version → List Slot → Bool → Slot → Slot → List Row
 rowsFor e k v vs strange salt output =
     let r = profileOf e k in
+    let l = limitsOf r in
     row 8 (eqb k 0)
     ∷ row 9 (not (versionAllowed r v))
-    ∷ row 10 (strange || misplaced r vs)
-    ∷ row 11 (badNumbers r vs)
-    ∷ (spellingRows r vs
-    ++ (row 14 (broken (isBytes (r .salt)) salt)
-    ∷ row 15 (broken (isSized (r .output)) output)
-    ∷ []))
+    ∷ row 10 (strange || misplaced l vs)
+    ∷ (numberRows l vs
+    ++ (spellingRows l vs
+    ++ (row 14 (broken (isBytes (l .salt)) salt)
+    ∷ row 15 (broken (isSized (l .output)) output)
+    ∷ [])))
 
 abbrev pub profileRows : List Profile → Pieces → List Row
 profileRows e p =

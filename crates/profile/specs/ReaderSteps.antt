@@ -2,7 +2,7 @@
 -- Assumes nothing.
 use Prim.Native.Nat.{ℕ}
 use mathlib.Core.Path.{_≡_}
-use mathlib.Core.Bool.{Bool, true, not, cond}
+use mathlib.Core.Bool.{true, not, cond}
 use mathlib.Core.List.{List, [], _∷_, map}
 use mathlib.Core.Option.{none, some}
 use lib.Dec.{eqb}
@@ -13,11 +13,12 @@ use Rattle.grammar.specs.Parts.{partAt, textOf}
 use Rattle.grammar.specs.declared.pieces.Span.{Span}
 use Rattle.grammar.specs.Rules.{Row, firstOf}
 use Rattle.grammar.specs.B64.{canonical, decode}
-use Rattle.profile.specs.Limits.{Profile, editionTwo}
+use Rattle.profile.specs.Limits.{editionTwo}
 use Rattle.profile.specs.Fields.{chosen, readNumber}
-use Rattle.profile.specs.Reader.{names, named, itemValue, slots, strangers, slotAt, badNumbers, fieldsOf}
+use Rattle.profile.specs.Reader.{names, named, itemValue, slots, strangers, slotAt, fieldsOf}
 use Rattle.profile.specs.Entries.{reading}
 use Rattle.profile.specs.declared.judge.Judgement.{Judgement}
+use Rattle.profile.specs.declared.limits.Limits.{Limits}
 use Rattle.profile.specs.declared.fields.ByteString.{ByteString}
 use Rattle.profile.specs.declared.fields.ByteString.the-variants.{Keyid, Data, Salt, Output}
 use Rattle.profile.specs.declared.reader.Whole.{Whole}
@@ -46,19 +47,16 @@ pub record ValuesAre (params : List ℕ) (is : List Item) (v : Values) : Type 0 
 
 -- ---- the judge
 
--- the numbers of an entry, as they stand in the values
-pub record NumbersAre (r : Profile) (vs : List Slot) (bad : Bool) (m t p : ℕ) : Type 0 where
-  pub bad-is : bad ≡ badNumbers r vs
-  pub m-is : m ≡ readNumber (r .m) (slotAt vs 0)
-  pub t-is : t ≡ readNumber (r .t) (slotAt vs 1)
-  pub p-is : p ≡ readNumber (r .p) (slotAt vs 2)
+-- the numbers read
+pub record NumbersAre (l : Limits) (vs : List Slot) (m t p : ℕ) : Type 0 where
+  pub m-is : m ≡ readNumber (l .m) (slotAt vs 0)
+  pub t-is : t ≡ readNumber (l .t) (slotAt vs 1)
+  pub p-is : p ≡ readNumber (l .p) (slotAt vs 2)
 
 -- the first row that applies; and where none does, the numbers read
-pub record Judged (rows : List Row) (r : Profile) (vs : List Slot) (j : Judgement) : Type 0 where
+pub record Judged (rows : List Row) (l : Limits) (vs : List Slot) (j : Judgement) : Type 0 where
   pub number-is : j .number ≡ firstOf rows
-  pub m-is : firstOf rows ≡ 0 → j .m ≡ readNumber (r .m) (slotAt vs 0)
-  pub t-is : firstOf rows ≡ 0 → j .t ≡ readNumber (r .t) (slotAt vs 1)
-  pub p-is : firstOf rows ≡ 0 → j .p ≡ readNumber (r .p) (slotAt vs 2)
+  pub numbers-are : firstOf rows ≡ 0 → NumbersAre l vs (j .m) (j .t) (j .p)
 
 -- ---- one reading
 

@@ -16,17 +16,9 @@ ghost use mathlib.Core.Path.{_≡_};
 ghost use mathlib.Core.Bool.{false};
 ghost use mathlib.Core.List.{List};
 ghost use Rattle.grammar.specs.Rules.{firstOf};
-ghost use Rattle.profile.specs.Limits.{Profile, profileOf, limitsOf, editionTwo};
-ghost use Rattle.profile.specs.Reader.{misplaced, rowsFor, spellingRows};
+ghost use Rattle.profile.specs.Limits.{profileOf, limitsOf, editionTwo};
+ghost use Rattle.profile.specs.Reader.{misplaced, numberRows, spellingRows, rowsFor};
 ghost use Rattle.profile.specs.ReaderSteps.{slotIn, slotsIn, NumbersAre, Judged};
-
-// The three numbers as they stand in the parameters, and whether row 11 applies to them.
-pub struct Numbers {
-    pub bad: bool,
-    pub m: u32,
-    pub t: u32,
-    pub p: u32,
-}
 
 // What the judge gives: the number of the row, 0 where none applies, and the numbers read.
 pub struct Judgement {
@@ -38,7 +30,7 @@ pub struct Judgement {
 
 // Names missing or unknown to the profile.
 fn is_misplaced(limits: Limits, values: Values) -> bool
-    ensures { λ r. ⌜ ((e : Profile) (t : List ℕ) → limits ≡ limitsOf e → r ≡ misplaced e (slotsIn t values)) ⌝ }
+    ensures { λ r. ⌜ ((t : List ℕ) → r ≡ misplaced limits (slotsIn t values)) ⌝ }
 {
     let m = limits.m;
     let m_span = values.m;
@@ -65,52 +57,6 @@ fn is_misplaced(limits: Limits, values: Values) -> bool
     misplaced_bytes(ad, ad_span)
 }
 
-// m, t and p, none of them misplaced. m < 8p is tested without a product that can wrap.
-fn read_numbers(limits: Limits, params: &[u8], values: Values) -> Numbers
-    requires { ⌜ ((e : Profile) → limits ≡ limitsOf e → misplaced e (slotsIn (now params) values) ≡ false) ⌝ }
-    ensures { λ r. ⌜ ((e : Profile) → limits ≡ limitsOf e → NumbersAre e (slotsIn (now (params .entry)) values) (r .bad) (r .m) (r .t) (r .p)) ⌝ }
-{
-    let m_rule = limits.m;
-    let m_span = values.m;
-    let m = read_number(m_rule, params, m_span);
-    let t_rule = limits.t;
-    let t_span = values.t;
-    let t = read_number(t_rule, params, t_span);
-    let p_rule = limits.p;
-    let p_span = values.p;
-    let p = read_number(p_rule, params, p_span);
-    if !m.good {
-        return Numbers {
-            bad: true,
-            m: m.value,
-            t: t.value,
-            p: p.value,
-        };
-    }
-    if !t.good {
-        return Numbers {
-            bad: true,
-            m: m.value,
-            t: t.value,
-            p: p.value,
-        };
-    }
-    if !p.good {
-        return Numbers {
-            bad: true,
-            m: m.value,
-            t: t.value,
-            p: p.value,
-        };
-    }
-    Numbers {
-        bad: m.value / 8 < p.value,
-        m: m.value,
-        t: t.value,
-        p: p.value,
-    }
-}
-
 fn refused(number: u8) -> Judgement
     ensures { λ r. ⌜ r ≡ record { number = number; m = 0; t = 0; p = 0 } ⌝ }
 {
@@ -122,10 +68,44 @@ fn refused(number: u8) -> Judgement
     }
 }
 
+// m, t and p, none of them misplaced: row 11. m < 8p is tested without a product that can wrap.
+fn read_numbers(limits: Limits, params: &[u8], values: Values) -> Judgement
+    requires { ⌜ misplaced limits (slotsIn (now params) values) ≡ false ⌝ }
+    ensures { λ r. ⌜ Judged (numberRows limits (slotsIn (now (params .entry)) values)) limits (slotsIn (now (params .entry)) values) r ⌝ }
+{
+    let m_rule = limits.m;
+    let m_span = values.m;
+    let m = read_number(m_rule, params, m_span);
+    if m.number != 0 {
+        return refused(m.number);
+    }
+    let t_rule = limits.t;
+    let t_span = values.t;
+    let t = read_number(t_rule, params, t_span);
+    if t.number != 0 {
+        return refused(t.number);
+    }
+    let p_rule = limits.p;
+    let p_span = values.p;
+    let p = read_number(p_rule, params, p_span);
+    if p.number != 0 {
+        return refused(p.number);
+    }
+    if m.value / 8 < p.value {
+        return refused(11);
+    }
+    Judgement {
+        number: 0,
+        m: m.value,
+        t: t.value,
+        p: p.value,
+    }
+}
+
 // Rows 12 and 13.
-fn bytes_and_spelling(limits: Limits, params: &[u8], values: Values, n: Numbers) -> u8
-    requires { ⌜ ((e : Profile) → limits ≡ limitsOf e → NumbersAre e (slotsIn (now params) values) (n .bad) (n .m) (n .t) (n .p)) ⌝ }
-    ensures { λ r. ⌜ ((e : Profile) → limits ≡ limitsOf e → r ≡ firstOf (spellingRows e (slotsIn (now (params .entry)) values))) ⌝ }
+fn bytes_and_spelling(limits: Limits, params: &[u8], values: Values, n: Judgement) -> u8
+    requires { ⌜ NumbersAre limits (slotsIn (now params) values) (n .m) (n .t) (n .p) ⌝ }
+    ensures { λ r. ⌜ r ≡ firstOf (spellingRows limits (slotsIn (now (params .entry)) values)) ⌝ }
 {
     let keyid = limits.keyid;
     let keyid_span = values.keyid;
@@ -165,7 +145,7 @@ pub fn judge(
     salt: Span,
     output: Span,
 ) -> Judgement
-    ensures { λ r. ⌜ Judged (rowsFor editionTwo id version (slotsIn (now (params .entry)) values) (values .strange) (slotIn (now (s .entry)) salt) (slotIn (now (s .entry)) output)) (profileOf editionTwo id) (slotsIn (now (params .entry)) values) r ⌝ }
+    ensures { λ r. ⌜ Judged (rowsFor editionTwo id version (slotsIn (now (params .entry)) values) (values .strange) (slotIn (now (s .entry)) salt) (slotIn (now (s .entry)) output)) (limitsOf (profileOf editionTwo id)) (slotsIn (now (params .entry)) values) r ⌝ }
 {
     if id == 0 {
         return refused(8);
@@ -181,8 +161,8 @@ pub fn judge(
         return refused(10);
     }
     let n = read_numbers(limits, params, values);
-    if n.bad {
-        return refused(11);
+    if n.number != 0 {
+        return n;
     }
     let number = bytes_and_spelling(limits, params, values, n);
     if number != 0 {
@@ -196,10 +176,5 @@ pub fn judge(
     if bad_size(output_rule, s, output) {
         return refused(15);
     }
-    Judgement {
-        number: 0,
-        m: n.m,
-        t: n.t,
-        p: n.p,
-    }
+    n
 }

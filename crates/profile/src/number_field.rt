@@ -8,22 +8,23 @@ use grammar::parts::part;
 use grammar::pieces::Span;
 ghost use Prim.Native.Nat.{ℕ, _≤_};
 ghost use mathlib.Core.Path.{_≡_};
-ghost use mathlib.Core.Bool.{false, not, cond};
+ghost use mathlib.Core.Bool.{false, cond};
 ghost use mathlib.Core.Option.{none, some};
 ghost use mathlib.Core.List.{List};
 ghost use lib.ListN.{length};
-ghost use Rattle.grammar.specs.Text.{broken};
+ghost use Rattle.grammar.specs.Rules.{firstOf};
 ghost use Rattle.grammar.specs.Decimal.{digits};
 ghost use Rattle.grammar.specs.Numerals.{limitedValue};
 ghost use Rattle.profile.specs.Limits.{lowest, highest, inRange};
-ghost use Rattle.profile.specs.Fields.{numberReading, isNumber, misplacedNumber, readNumber, writtenOut, writeNumber};
+ghost use Rattle.profile.specs.Fields.{numberReading, misplacedNumber, readNumber, writtenOut, writeNumber};
+ghost use Rattle.profile.specs.Reader.{numberRow};
 ghost use Rattle.profile.specs.Claims.{room};
 ghost use Rattle.profile.specs.ReaderSteps.{slotIn};
 ghost use Rattle.profile.specs.WriterSteps.{tagged, taggedLength, Wrote};
 
-// What was read: whether the value keeps its rule, and the number.
+// What was read: the number of the row that applies, 0 where none does, and the value.
 pub struct Number {
-    pub good: bool,
+    pub number: u8,
     pub value: u32,
 }
 
@@ -87,19 +88,19 @@ fn given_of(rule: NumberRule) -> u32
 
 // The text of a value, read by its rule.
 fn written(rule: NumberRule, text: &[u8]) -> Number
-    ensures { λ r. ⌜ (r .good ≡ isNumber rule (now (text .entry))) × (r .value ≡ limitedValue (numberReading rule (now (text .entry)))) ⌝ }
+    ensures { λ r. ⌜ (r .number ≡ firstOf (numberRow rule (some (now (text .entry))))) × (r .value ≡ limitedValue (numberReading rule (now (text .entry)))) ⌝ }
 {
     match read_within(text, lowest_of(rule) as u64, highest_of(rule) as u64) {
         Limited::Malformed => Number {
-            good: false,
+            number: 11,
             value: 0,
         },
         Limited::Outside => Number {
-            good: false,
+            number: 11,
             value: 0,
         },
         Limited::Value(n) => Number {
-            good: true,
+            number: 0,
             value: n as u32,
         },
     }
@@ -108,11 +109,11 @@ fn written(rule: NumberRule, text: &[u8]) -> Number
 // A number parameter that is not misplaced.
 pub fn read_number(rule: NumberRule, t: &[u8], span: Span) -> Number
     requires { ⌜ misplacedNumber rule (slotIn (now t) span) ≡ false ⌝ }
-    ensures { λ r. ⌜ (r .good ≡ not (broken (isNumber rule) (slotIn (now (t .entry)) span))) × (r .value ≡ readNumber rule (slotIn (now (t .entry)) span)) ⌝ }
+    ensures { λ r. ⌜ (r .number ≡ firstOf (numberRow rule (slotIn (now (t .entry)) span))) × (r .value ≡ readNumber rule (slotIn (now (t .entry)) span)) ⌝ }
 {
     if span.at == 0 {
         return Number {
-            good: true,
+            number: 0,
             value: given_of(rule),
         };
     }

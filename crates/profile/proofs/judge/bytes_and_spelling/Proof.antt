@@ -8,17 +8,16 @@ use denote.Ref.{now}
 use Rattle.grammar.specs.Text.{broken}
 use Rattle.grammar.specs.Pieces.{Slot}
 use Rattle.grammar.specs.Rules.{row, firstOf}
-use Rattle.profile.specs.Limits.{Profile}
+use Rattle.profile.specs.declared.limits.Limits.{Limits}
 use Rattle.profile.specs.Fields.{isBytes, writtenOut}
 use Rattle.profile.specs.Reader.{slotAt, spellingRows}
 use Rattle.profile.specs.ReaderSteps.{slotsIn, NumbersAre}
-use Rattle.profile.proofs.JudgeLaws.{entryOf, spelling-by}
 use Rattle.profile.proofs.judge.bytes_and_spelling.Statement.{statement}
 use Rattle.profile.proofs.judge.bytes_and_spelling.Tie as tie
 
--- the entry, the values of the names, and the tests
-abbrev entry : tie.Start → Profile
-entry a = entryOf (a .args .limits)
+-- the limits, the values of the names, and the tests
+abbrev entry : tie.Start → Limits
+entry a = a .args .limits
 
 abbrev values : tie.Start → List Slot
 values a = slotsIn (now (a .args .params)) (a .args .values)
@@ -40,20 +39,20 @@ p a = writtenOut (entry a .p) (slotAt (values a) 2)
 
 -- what is left of the rows past each test
 abbrev rest-1 : tie.Start → ℕ
-rest-1 a = firstOf (row 12 (ad a) ∷ row 13 (m a || t a || p a) ∷ [])
+rest-1 a = firstOf (row 12 (ad a) ∷ row 13 (m a) ∷ row 13 (t a) ∷ row 13 (p a) ∷ [])
 
 abbrev rest-2 : tie.Start → ℕ
-rest-2 a = firstOf (row 13 (m a || t a || p a) ∷ [])
+rest-2 a = firstOf (row 13 (m a) ∷ row 13 (t a) ∷ row 13 (p a) ∷ [])
 
 abbrev rest-3 : tie.Start → ℕ
-rest-3 a = firstOf (row 13 (t a || p a) ∷ [])
+rest-3 a = firstOf (row 13 (t a) ∷ row 13 (p a) ∷ [])
 
 abbrev rest-4 : tie.Start → ℕ
 rest-4 a = firstOf (row 13 (p a) ∷ [])
 
 -- the numbers read
-given : (a : tie.Start) → NumbersAre (entry a) (values a) (a .args .n .bad) (a .args .n .m) (a .args .n .t) (a .args .n .p)
-given a = a .pre (entry a) refl
+given : (a : tie.Start) → NumbersAre (entry a) (values a) (a .args .n .m) (a .args .n .t) (a .args .n .p)
+given a = a .pre
 
 -- whether each number is written out, as its test came out
 told-m : (c : tie.After-written-out) → c .written-out .result ≡ m (c .before .before .before .before .before .before .before .before .before)
@@ -82,46 +81,34 @@ bad-bytes-requires : tie.Need-bad-bytes-requires
 bad-bytes-requires c κs = search needs
 
 returns : tie.Need-returns
-returns c =
-    let a = c .before .before .before .before in
-    λ e q. sym (rw (← c .before .bad-bytes .ensures, c .if1 .taken)) ∙ spelling-by (a .args .limits) e (values a) q
+returns c = sym (rw (← c .before .bad-bytes .ensures, c .if1 .taken))
 
 bad-bytes-requires-2 : tie.Need-bad-bytes-requires-2
 bad-bytes-requires-2 c κs = search needs
 
 returns-2 : tie.Need-returns-2
-returns-2 c =
-    let a = c .before .before .before .before .before .before .before in
-    λ e q. sym (past-1 (c .before .before .before) ∙ rw (← c .before .bad-bytes2 .ensures, c .if2 .taken)) ∙ spelling-by (a .args .limits) e (values a) q
+returns-2 c = sym (past-1 (c .before .before .before) ∙ rw (← c .before .bad-bytes2 .ensures, c .if2 .taken))
 
 written-out-requires : tie.Need-written-out-requires
 written-out-requires c κs = search needs
 
 returns-3 : tie.Need-returns-3
-returns-3 c =
-    let a = c .before .before .before .before .before .before .before .before .before .before in
-    λ e q. sym (past-2 (c .before .before .before) ∙ rw (← told-m (c .before), c .if3 .taken)) ∙ spelling-by (a .args .limits) e (values a) q
+returns-3 c = sym (past-2 (c .before .before .before) ∙ rw (← told-m (c .before), c .if3 .taken))
 
 written-out-requires-2 : tie.Need-written-out-requires-2
 written-out-requires-2 c κs = search needs
 
 returns-4 : tie.Need-returns-4
-returns-4 c =
-    let a = c .before .before .before .before .before .before .before .before .before .before .before .before .before in
-    λ e q. sym (past-3 (c .before .before .before) ∙ rw (← told-t (c .before), c .if4 .taken)) ∙ spelling-by (a .args .limits) e (values a) q
+returns-4 c = sym (past-3 (c .before .before .before) ∙ rw (← told-t (c .before), c .if4 .taken))
 
 written-out-requires-3 : tie.Need-written-out-requires-3
 written-out-requires-3 c κs = search needs
 
 returns-5 : tie.Need-returns-5
-returns-5 c =
-    let a = c .before .before .before .before .before .before .before .before .before .before .before .before .before .before .before .before in
-    λ e q. sym (past-4 (c .before .before .before) ∙ rw (← told-p (c .before), c .if5 .taken)) ∙ spelling-by (a .args .limits) e (values a) q
+returns-5 c = sym (past-4 (c .before .before .before) ∙ rw (← told-p (c .before), c .if5 .taken))
 
 returns-6 : tie.Need-returns-6
-returns-6 c =
-    let a = c .before .before .before .before .before .before .before .before .before .before .before .before .before .before .before .before in
-    λ e q. sym (past-4 (c .before .before .before) ∙ rw (← told-p (c .before), c .if5 .left)) ∙ spelling-by (a .args .limits) e (values a) q
+returns-6 c = sym (past-4 (c .before .before .before) ∙ rw (← told-p (c .before), c .if5 .left))
 
 pub bytes-and-spelling-spec : {M : Type 1} → statement M
 bytes-and-spelling-spec =

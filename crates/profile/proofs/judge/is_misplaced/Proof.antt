@@ -7,13 +7,12 @@ use mathlib.Core.Path.{_≡_, sym, _∙_}
 use Rattle.profile.specs.Fields.{misplacedNumber, misplacedBytes}
 use Rattle.profile.specs.Reader.{misplaced}
 use Rattle.profile.specs.ReaderSteps.{slotIn, slotsIn}
-use Rattle.profile.proofs.JudgeLaws.{entryOf, misplaced-by}
 use Rattle.profile.proofs.judge.is_misplaced.Statement.{statement}
 use Rattle.profile.proofs.judge.is_misplaced.Tie as tie
 
 -- the tests over a text: all, and each
 abbrev tests : tie.Start → List ℕ → Bool
-tests a u = misplaced (entryOf (a .args .limits)) (slotsIn u (a .args .values))
+tests a u = misplaced (a .args .limits) (slotsIn u (a .args .values))
 
 abbrev t : tie.Start → List ℕ → Bool
 t a u = misplacedNumber (a .args .limits .t) (slotIn u (a .args .values .t))
@@ -57,41 +56,31 @@ misplaced-number-requires : tie.Need-misplaced-number-requires
 misplaced-number-requires c κs = search needs
 
 returns : tie.Need-returns
-returns c =
-    let a = c .before .before .before .args in
-    λ e u q. sym (rw (← c .before .misplaced-number .ensures u, c .if1 .taken)) ∙ misplaced-by (a .limits) e (slotsIn u (a .values)) q
+returns c = λ u. sym (rw (← c .before .misplaced-number .ensures u, c .if1 .taken))
 
 misplaced-number-requires-2 : tie.Need-misplaced-number-requires-2
 misplaced-number-requires-2 c κs = search needs
 
 returns-2 : tie.Need-returns-2
-returns-2 c =
-    let a = c .before .before .before .before .before .before .args in
-    λ e u q. sym (past-1 (c .before .before .before) u ∙ rw (← c .before .misplaced-number2 .ensures u, c .if2 .taken)) ∙ misplaced-by (a .limits) e (slotsIn u (a .values)) q
+returns-2 c = λ u. sym (past-1 (c .before .before .before) u ∙ rw (← c .before .misplaced-number2 .ensures u, c .if2 .taken))
 
 misplaced-number-requires-3 : tie.Need-misplaced-number-requires-3
 misplaced-number-requires-3 c κs = search needs
 
 returns-3 : tie.Need-returns-3
-returns-3 c =
-    let a = c .before .before .before .before .before .before .before .before .before .args in
-    λ e u q. sym (past-2 (c .before .before .before) u ∙ rw (← c .before .misplaced-number3 .ensures u, c .if3 .taken)) ∙ misplaced-by (a .limits) e (slotsIn u (a .values)) q
+returns-3 c = λ u. sym (past-2 (c .before .before .before) u ∙ rw (← c .before .misplaced-number3 .ensures u, c .if3 .taken))
 
 misplaced-bytes-requires : tie.Need-misplaced-bytes-requires
 misplaced-bytes-requires c κs = search needs
 
 returns-4 : tie.Need-returns-4
-returns-4 c =
-    let a = c .before .before .before .before .before .before .before .before .before .before .before .before .args in
-    λ e u q. sym (past-3 (c .before .before .before) u ∙ rw (← c .before .misplaced-bytes .ensures u, c .if4 .taken)) ∙ misplaced-by (a .limits) e (slotsIn u (a .values)) q
+returns-4 c = λ u. sym (past-3 (c .before .before .before) u ∙ rw (← c .before .misplaced-bytes .ensures u, c .if4 .taken))
 
 misplaced-bytes-requires-2 : tie.Need-misplaced-bytes-requires-2
 misplaced-bytes-requires-2 c κs = search needs
 
 returns-5 : tie.Need-returns-5
-returns-5 c =
-    let a = c .before .before .before .before .before .before .before .before .before .before .before .before .before .before .args in
-    λ e u q. sym (past-4 (c .before .before) u ∙ sym (c .misplaced-bytes2 .ensures u)) ∙ misplaced-by (a .limits) e (slotsIn u (a .values)) q
+returns-5 c = λ u. sym (past-4 (c .before .before) u ∙ sym (c .misplaced-bytes2 .ensures u))
 
 pub is-misplaced-spec : {M : Type 1} → statement M
 is-misplaced-spec =

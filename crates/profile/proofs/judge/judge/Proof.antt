@@ -3,27 +3,26 @@ use Prim.Native.Nat.{ℕ}
 use borrow.Author.Needs.{needs}
 use borrow.Author.Tests.{eq-eqb, ne-eqb}
 use mathlib.Core.List.{List}
-use mathlib.Core.Path.{_≡_, refl, sym, _∙_, ap}
+use mathlib.Core.Path.{_≡_, refl, sym, _∙_, ap, subst}
 use native.Mathlib.Omega.{arith}
 use lib.ListN.{drop}
 use denote.Ref.{now}
 use Rattle.grammar.specs.Text.{broken}
 use Rattle.grammar.specs.Pieces.{Slot}
 use Rattle.grammar.specs.Rules.{Row, firstOf}
-use Rattle.grammar.proofs.Rows.{clear}
-use Rattle.profile.specs.Limits.{Profile, profileOf, editionTwo}
+use Rattle.profile.specs.Limits.{limitsOf, profileOf, editionTwo}
 use Rattle.profile.specs.Fields.{isSized, isBytes}
-use Rattle.profile.specs.Reader.{misplaced, rowsFor, spellingRows}
+use Rattle.profile.specs.Reader.{misplaced, numberRows, spellingRows, rowsFor}
 use Rattle.profile.specs.ReaderSteps.{slotIn, slotsIn, NumbersAre, Judged}
 use Rattle.profile.specs.declared.judge.Judgement.{Judgement}
 use Rattle.profile.specs.declared.limits.Limits.{Limits}
-use Rattle.profile.proofs.JudgeLaws.{rows-stop, rows-pass, judged-refused, judged-accepted}
+use Rattle.profile.proofs.JudgeLaws.{rows-stop, rows-next, judged-refused, judged-accepted, judged-before}
 use Rattle.profile.proofs.judge.judge.Statement.{statement}
 use Rattle.profile.proofs.judge.judge.Tie as tie
 
--- the entry, the values of the names, the two last slots, and the rows
-abbrev entry : tie.Start → Profile
-entry a = profileOf editionTwo (a .args .id)
+-- the limits, the values of the names, the two last slots, and the rows
+abbrev entry : tie.Start → Limits
+entry a = limitsOf (profileOf editionTwo (a .args .id))
 
 abbrev values : tie.Start → List Slot
 values a = slotsIn (now (a .args .params)) (a .args .values)
@@ -36,6 +35,9 @@ output a = slotIn (now (a .args .s)) (a .args .output)
 
 abbrev rows : tie.Start → List Row
 rows a = rowsFor editionTwo (a .args .id) (a .args .version) (values a) (a .args .values .strange) (salt a) (output a)
+
+abbrev numbers : tie.Start → List Row
+numbers a = numberRows (entry a) (values a)
 
 abbrev spelling : tie.Start → List Row
 spelling a = spellingRows (entry a) (values a)
@@ -57,7 +59,7 @@ abbrev at-4 : tie.Else4 → tie.Start
 at-4 c = at-3 (c .before .before)
 
 abbrev at-5 : tie.Else5 → tie.Start
-at-5 c = at-4 (c .before .before)
+at-5 c = at-4 (c .before .before .before)
 
 abbrev at-6 : tie.Else6 → tie.Start
 at-6 c = at-5 (c .before .before)
@@ -69,20 +71,29 @@ abbrev at-8 : tie.Else8 → tie.Start
 at-8 c = at-7 (c .before .before)
 
 -- what each step was told, of the entry
-misplaced-is : (c : tie.After-is-misplaced) → c .is-misplaced .result ≡ misplaced (entry (at-3 (c .before))) (values (at-3 (c .before)))
-misplaced-is c = c .is-misplaced .ensures (entry (at-3 (c .before))) _ (c .before .before .limits-of .ensures)
+limits-are : (c : tie.After-limits-of) → c .limits-of .result ≡ entry (at-2 (c .before))
+limits-are c = c .limits-of .ensures
 
-numbers-are : (c : tie.After-read-numbers) → NumbersAre (entry (at-4 (c .before))) (values (at-4 (c .before))) (c .read-numbers .result .bad) (c .read-numbers .result .m) (c .read-numbers .result .t) (c .read-numbers .result .p)
-numbers-are c = c .read-numbers .ensures (entry (at-4 (c .before))) (c .before .before .before .before .limits-of .ensures)
+misplaced-is : (c : tie.After-is-misplaced) → c .is-misplaced .result ≡ misplaced (entry (at-3 (c .before))) (values (at-3 (c .before)))
+misplaced-is c =
+    let a = at-3 (c .before) in
+    c .is-misplaced .ensures (now (a .args .params)) ∙ ap (λ (l : Limits). misplaced l (values a)) (limits-are (c .before .before))
+
+numbers-are : (c : tie.After-read-numbers) → Judged (numbers (at-4 (c .before))) (entry (at-4 (c .before))) (values (at-4 (c .before))) (c .read-numbers .result)
+numbers-are c =
+    let a = at-4 (c .before) in
+    subst (λ (l : Limits). Judged (numberRows l (values a)) l (values a) (c .read-numbers .result)) (limits-are (c .before .before .before .before)) (c .read-numbers .ensures)
 
 spelling-is : (c : tie.After-bytes-and-spelling) → c .bytes-and-spelling .result ≡ firstOf (spelling (at-5 (c .before)))
-spelling-is c = c .bytes-and-spelling .ensures (entry (at-5 (c .before))) (c .before .before .before .before .before .before .limits-of .ensures)
+spelling-is c =
+    let a = at-5 (c .before) in
+    c .bytes-and-spelling .ensures ∙ ap (λ (l : Limits). firstOf (spellingRows l (values a))) (limits-are (c .before .before .before .before .before .before .before))
 
 salt-is : (c : tie.After-bad-bytes) → c .bad-bytes .result ≡ broken (isBytes (entry (at-6 (c .before)) .salt)) (salt (at-6 (c .before)))
-salt-is c = c .bad-bytes .ensures ∙ ap (λ (l : Limits). broken (isBytes (l .salt)) (salt (at-6 (c .before)))) (c .before .before .before .before .before .before .before .before .limits-of .ensures)
+salt-is c = c .bad-bytes .ensures ∙ ap (λ (l : Limits). broken (isBytes (l .salt)) (salt (at-6 (c .before)))) (c .before .before .before .before .before .before .before .before .before .limits-of .ensures)
 
 output-is : (c : tie.After-bad-size) → c .bad-size .result ≡ broken (isSized (entry (at-7 (c .before)) .output)) (output (at-7 (c .before)))
-output-is c = c .bad-size .ensures ∙ ap (λ (l : Limits). broken (isSized (l .output)) (output (at-7 (c .before)))) (c .before .before .before .before .before .before .before .before .before .before .limits-of .ensures)
+output-is c = c .bad-size .ensures ∙ ap (λ (l : Limits). broken (isSized (l .output)) (output (at-7 (c .before)))) (c .before .before .before .before .before .before .before .before .before .before .before .limits-of .ensures)
 
 -- past each row that does not apply
 past-8 : (c : tie.Else1) → firstOf (rows (at-1 c)) ≡ firstOf (drop 1 (rows (at-1 c)))
@@ -94,14 +105,24 @@ past-9 c = past-8 (c .before .before) ∙ rw (← c .before .version-allowed .en
 past-10 : (c : tie.Else4) → firstOf (rows (c .before .before .before .before .before .before .before .before .before)) ≡ firstOf (drop 3 (rows (c .before .before .before .before .before .before .before .before .before)))
 past-10 c = past-9 (c .before .before .before .before) ∙ rw (c .before .before .if3 .left, ← misplaced-is (c .before), c .if4 .left)
 
-past-11 : (c : tie.Else5) → firstOf (rows (at-5 c)) ≡ firstOf (drop 4 (rows (at-5 c)))
-past-11 c = past-10 (c .before .before) ∙ rw (← numbers-are (c .before) .bad-is, c .if5 .left)
+past-11 : (c : tie.Else5) → firstOf (rows (at-5 c)) ≡ firstOf (drop 7 (rows (at-5 c)))
+past-11 c =
+    let r = c .before .before in
+    past-10 (r .before) ∙ rows-next (numbers (at-5 c)) (drop 7 (rows (at-5 c))) (r .read-numbers .result .number) refl (numbers-are r .number-is) (c .if5 .left)
 
-past-13 : (c : tie.Else6) → firstOf (rows (at-6 c)) ≡ firstOf (drop 6 (rows (at-6 c)))
-past-13 c = past-11 (c .before .before) ∙ rows-pass (spelling (at-6 c)) (drop 6 (rows (at-6 c))) (clear (spelling (at-6 c)) refl (sym (spelling-is (c .before)) ∙ c .if6 .left))
+past-13 : (c : tie.Else6) → firstOf (rows (at-6 c)) ≡ firstOf (drop 12 (rows (at-6 c)))
+past-13 c =
+    past-11 (c .before .before)
+    ∙ rows-next (spelling (at-6 c)) (drop 12 (rows (at-6 c))) (c .before .bytes-and-spelling .result) refl (spelling-is (c .before)) (c .if6 .left)
 
-past-14 : (c : tie.Else7) → firstOf (rows (at-7 c)) ≡ firstOf (drop 7 (rows (at-7 c)))
+past-14 : (c : tie.Else7) → firstOf (rows (at-7 c)) ≡ firstOf (drop 13 (rows (at-7 c)))
 past-14 c = past-13 (c .before .before) ∙ rw (← salt-is (c .before), c .if7 .left)
+
+-- the numbers read, where no row applies to them
+kept : (c : tie.Else5) → let j = c .before .before .read-numbers .result in NumbersAre (entry (at-5 c)) (values (at-5 c)) (j .m) (j .t) (j .p)
+kept c =
+    let r = c .before .before in
+    numbers-are r .numbers-are (sym (numbers-are r .number-is) ∙ c .if5 .left)
 
 refused-requires : tie.Need-refused-requires
 refused-requires c κs = search needs
@@ -145,53 +166,56 @@ returns-4 c =
     refuse a (c .refused4 .result) 10 (c .refused4 .ensures) (past-9 (c .before .before .before .before .before) ∙ rw (c .before .before .before .if3 .left, ← misplaced-is (c .before .before), c .before .if4 .taken)) (λ z. absurd (omega arith))
 
 read-numbers-requires : tie.Need-read-numbers-requires
-read-numbers-requires c κs = λ e q. sym (c .before .is-misplaced .ensures e _ q) ∙ c .if4 .left
+read-numbers-requires c κs = sym (c .before .is-misplaced .ensures _) ∙ c .if4 .left
+
+returns-5 : tie.Need-returns-5
+returns-5 c =
+    let r = c .before .before in
+    let a = at-4 (r .before) in
+    judged-before (numbers a) (drop 7 (rows a)) (entry a) (values a) (r .read-numbers .result) (numbers-are r) (c .if5 .taken) (rows a) (past-10 (r .before))
+
+bytes-and-spelling-requires : tie.Need-bytes-and-spelling-requires
+bytes-and-spelling-requires c κs =
+    let r = c .before .before in
+    r .read-numbers .ensures .numbers-are (sym (r .read-numbers .ensures .number-is) ∙ c .if5 .left)
 
 refused-requires-5 : tie.Need-refused-requires-5
 refused-requires-5 c κs = search needs
 
-returns-5 : tie.Need-returns-5
-returns-5 c =
-    let a = at-4 (c .before .before .before) in
-    refuse a (c .refused5 .result) 11 (c .refused5 .ensures) (past-10 (c .before .before .before) ∙ rw (← numbers-are (c .before .before) .bad-is, c .before .if5 .taken)) (λ z. absurd (omega arith))
-
-bytes-and-spelling-requires : tie.Need-bytes-and-spelling-requires
-bytes-and-spelling-requires c κs = search needs
-
-refused-requires-6 : tie.Need-refused-requires-6
-refused-requires-6 c κs = search needs
-
 returns-6 : tie.Need-returns-6
 returns-6 c =
-    let a = at-5 (c .before .before .before) in
-    refuse a (c .refused6 .result) (c .before .before .bytes-and-spelling .result) (c .refused6 .ensures) (past-11 (c .before .before .before) ∙ rows-stop (spelling a) (drop 6 (rows a)) (c .before .before .bytes-and-spelling .result) (spelling-is (c .before .before)) (c .before .if6 .taken)) (c .before .if6 .taken)
+    let b = c .before .before in
+    let a = at-5 (b .before) in
+    refuse a (c .refused5 .result) (b .bytes-and-spelling .result) (c .refused5 .ensures)
+    (past-11 (b .before) ∙ rows-stop (spelling a) (drop 12 (rows a)) (b .bytes-and-spelling .result) (spelling-is b) (c .before .if6 .taken))
+    (c .before .if6 .taken)
 
 bad-bytes-requires : tie.Need-bad-bytes-requires
 bad-bytes-requires c κs = search needs
 
-refused-requires-7 : tie.Need-refused-requires-7
-refused-requires-7 c κs = search needs
+refused-requires-6 : tie.Need-refused-requires-6
+refused-requires-6 c κs = search needs
 
 returns-7 : tie.Need-returns-7
 returns-7 c =
     let a = at-6 (c .before .before .before) in
-    refuse a (c .refused7 .result) 14 (c .refused7 .ensures) (past-13 (c .before .before .before) ∙ rw (← salt-is (c .before .before), c .before .if7 .taken)) (λ z. absurd (omega arith))
+    refuse a (c .refused6 .result) 14 (c .refused6 .ensures) (past-13 (c .before .before .before) ∙ rw (← salt-is (c .before .before), c .before .if7 .taken)) (λ z. absurd (omega arith))
 
 bad-size-requires : tie.Need-bad-size-requires
 bad-size-requires c κs = search needs
 
-refused-requires-8 : tie.Need-refused-requires-8
-refused-requires-8 c κs = search needs
+refused-requires-7 : tie.Need-refused-requires-7
+refused-requires-7 c κs = search needs
 
 returns-8 : tie.Need-returns-8
 returns-8 c =
     let a = at-7 (c .before .before .before) in
-    refuse a (c .refused8 .result) 15 (c .refused8 .ensures) (past-14 (c .before .before .before) ∙ rw (← output-is (c .before .before), c .before .if8 .taken)) (λ z. absurd (omega arith))
+    refuse a (c .refused7 .result) 15 (c .refused7 .ensures) (past-14 (c .before .before .before) ∙ rw (← output-is (c .before .before), c .before .if8 .taken)) (λ z. absurd (omega arith))
 
 returns-9 : tie.Need-returns-9
 returns-9 c =
     let a = at-8 c in
-    judged-accepted (rows a) (entry a) (values a) _ refl (past-14 (c .before .before) ∙ rw (← output-is (c .before), c .if8 .left)) (numbers-are (c .before .before .before .before .before .before .before))
+    judged-accepted (rows a) (entry a) (values a) _ (c .before .before .before .before .before .before .if5 .left) (past-14 (c .before .before) ∙ rw (← output-is (c .before), c .if8 .left)) (kept (c .before .before .before .before .before .before))
 
 pub judge-spec : {M : Type 1} → statement M
 judge-spec =
@@ -209,15 +233,14 @@ judge-spec =
     refused-requires-4
     returns-4
     read-numbers-requires
-    refused-requires-5
     returns-5
     bytes-and-spelling-requires
-    refused-requires-6
+    refused-requires-5
     returns-6
     bad-bytes-requires
-    refused-requires-7
+    refused-requires-6
     returns-7
     bad-size-requires
-    refused-requires-8
+    refused-requires-7
     returns-8
     returns-9)

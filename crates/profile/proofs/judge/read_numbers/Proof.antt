@@ -1,81 +1,166 @@
--- `profile::judge::read_numbers` meets its contract. Assumes nothing.
+-- `profile::judge::read_numbers` meets its contract, row by row. Assumes nothing.
+use Prim.Native.Nat.{ℕ, _*_, _/_}
 use mathlib.Core.Bool.{false}
-use mathlib.Core.List.{List}
-use mathlib.Core.Path.{_≡_, refl}
+use mathlib.Core.List.{List, [], _∷_, _++_}
+use mathlib.Core.Path.{_≡_, refl, _∙_}
+use native.Mathlib.Omega.{arith}
+use borrow.Author.Needs.{needs}
+use borrow.Author.Tests.{lt-ltb, le-ltb}
 use denote.Ref.{now}
+use lib.Dec.{ltb}
 use Rattle.grammar.specs.Pieces.{Slot}
-use Rattle.profile.specs.Limits.{Profile}
-use Rattle.profile.specs.Fields.{misplacedNumber}
-use Rattle.profile.specs.Reader.{slotAt}
-use Rattle.profile.specs.ReaderSteps.{slotsIn}
-use Rattle.profile.proofs.JudgeLaws.{entryOf, numbers-by, placed, bad-m, bad-t, bad-p, all-kept}
+use Rattle.grammar.specs.Rules.{Row, row, firstOf}
+use Rattle.profile.specs.Fields.{misplacedNumber, readNumber}
+use Rattle.profile.specs.Reader.{slotAt, numberRow, numberRows}
+use Rattle.profile.specs.ReaderSteps.{slotsIn, Judged}
+use Rattle.profile.specs.declared.judge.Judgement.{Judgement}
+use Rattle.profile.specs.declared.limits.Limits.{Limits}
+use Rattle.profile.proofs.JudgeLaws.{placed, lanes, rows-stop, rows-next, judged-refused, judged-accepted}
 use Rattle.profile.proofs.judge.read_numbers.Statement.{statement}
 use Rattle.profile.proofs.judge.read_numbers.Tie as tie
 
--- the entry, and the values of the names
-abbrev entry : tie.Start → Profile
-entry a = entryOf (a .args .limits)
+-- the limits, the values of the names, and the rows
+abbrev limits : tie.Start → Limits
+limits a = a .args .limits
 
 abbrev values : tie.Start → List Slot
 values a = slotsIn (now (a .args .params)) (a .args .values)
 
+abbrev rows : tie.Start → List Row
+rows a = numberRows (limits a) (values a)
+
+abbrev m-rows : tie.Start → List Row
+m-rows a = numberRow (limits a .m) (slotAt (values a) 0)
+
+abbrev t-rows : tie.Start → List Row
+t-rows a = numberRow (limits a .t) (slotAt (values a) 1)
+
+abbrev p-rows : tie.Start → List Row
+p-rows a = numberRow (limits a .p) (slotAt (values a) 2)
+
+abbrev last : tie.Start → List Row
+last a = row 11 (ltb (readNumber (limits a .m) (slotAt (values a) 0)) (8 * readNumber (limits a .p) (slotAt (values a) 2))) ∷ []
+
+-- where the function began, from each number
+abbrev at-m : tie.After-read-number → tie.Start
+at-m c = c .before .before .before
+
+abbrev to-m : tie.After-read-number2 → tie.After-read-number
+to-m c = c .before .before .before .before
+
+abbrev to-t : tie.After-read-number3 → tie.After-read-number2
+to-t c = c .before .before .before .before
+
 in-place : (a : tie.Start)
-    → (misplacedNumber (a .args .limits .m) (slotAt (values a) 0) ≡ false) × (misplacedNumber (a .args .limits .t) (slotAt (values a) 1) ≡ false) × (misplacedNumber (a .args .limits .p) (slotAt (values a) 2) ≡ false)
-in-place a = placed (entry a) (values a) (a .pre (entry a) refl)
+    → (misplacedNumber (limits a .m) (slotAt (values a) 0) ≡ false) × (misplacedNumber (limits a .t) (slotAt (values a) 1) ≡ false) × (misplacedNumber (limits a .p) (slotAt (values a) 2) ≡ false)
+in-place a = placed (limits a) (values a) (a .pre)
+
+refuse : (a : tie.Start) (j : Judgement) (n : ℕ) → j ≡ record { number = n; m = 0; t = 0; p = 0 } → firstOf (rows a) ≡ n → (n ≡ 0 → ⊥) → Judged (rows a) (limits a) (values a) j
+refuse a j n e h z = judged-refused (rows a) (limits a) (values a) j n e h z
+
+-- past each number that keeps its rule
+past-m : (c : tie.Else1) → let a = at-m (c .before .before) in firstOf (rows a) ≡ firstOf (t-rows a ++ (p-rows a ++ last a))
+past-m c =
+    let m = c .before .before in
+    let a = at-m m in
+    rows-next (m-rows a) (t-rows a ++ (p-rows a ++ last a)) (m .read-number .result .number) refl (m .read-number .ensures .0) (c .if1 .left)
+
+past-t : (c : tie.Else2) → let a = at-m (to-m (c .before .before)) in firstOf (rows a) ≡ firstOf (p-rows a ++ last a)
+past-t c =
+    let t = c .before .before in
+    let a = at-m (to-m t) in
+    past-m (t .before .before) ∙ rows-next (t-rows a) (p-rows a ++ last a) (t .read-number2 .result .number) refl (t .read-number2 .ensures .0) (c .if2 .left)
+
+past-p : (c : tie.Else3) → let a = at-m (to-m (to-t (c .before .before))) in firstOf (rows a) ≡ firstOf (last a)
+past-p c =
+    let p = c .before .before in
+    let a = at-m (to-m (to-t p)) in
+    past-t (p .before .before) ∙ rows-next (p-rows a) (last a) (p .read-number3 .result .number) refl (p .read-number3 .ensures .0) (c .if3 .left)
+
+-- whether m is below 8p, by the values read
+below : (c : tie.Else3)
+    → let p = c .before .before in
+    let m = to-m (to-t p) in
+    firstOf (rows (at-m m)) ≡ firstOf (row 11 (ltb (m .read-number .result .value / 8) (p .read-number3 .result .value)) ∷ [])
+below c =
+    let p = c .before .before in
+    let m = to-m (to-t p) in
+    past-p c ∙ rw (← m .read-number .ensures .1, ← p .read-number3 .ensures .1, lanes)
 
 read-number-requires : tie.Need-read-number-requires
 read-number-requires c κs = in-place (c .before .before) .0
 
-read-number-requires-2 : tie.Need-read-number-requires-2
-read-number-requires-2 c κs = in-place (c .before .before .before .before) .1
-
-read-number-requires-3 : tie.Need-read-number-requires-3
-read-number-requires-3 c κs = in-place (c .before .before .before .before .before .before) .2
+refused-requires : tie.Need-refused-requires
+refused-requires c κs = search needs
 
 returns : tie.Need-returns
 returns c =
-    let k = c .before .before in
-    let a = k .before .before .before .before .before .before .before in
-    let m = k .before .before .before .before .read-number .ensures in
-    let t = k .before .before .read-number2 .ensures in
-    let p = k .read-number3 .ensures in
-    λ e q. numbers-by (a .args .limits) e (values a) q (bad-m (entry a) (values a) _ _ _ _ _ _ m t p (c .if1 .taken))
+    let m = c .before .before .before in
+    let a = at-m m in
+    refuse a (c .refused .result) (m .read-number .result .number) (c .refused .ensures)
+    (rows-stop (m-rows a) (t-rows a ++ (p-rows a ++ last a)) (m .read-number .result .number) (m .read-number .ensures .0) (c .before .if1 .taken))
+    (c .before .if1 .taken)
+
+read-number-requires-2 : tie.Need-read-number-requires-2
+read-number-requires-2 c κs = in-place (at-m (c .before .before .before)) .1
+
+refused-requires-2 : tie.Need-refused-requires-2
+refused-requires-2 c κs = search needs
 
 returns-2 : tie.Need-returns-2
 returns-2 c =
-    let k = c .before .before .before .before in
-    let a = k .before .before .before .before .before .before .before in
-    let m = k .before .before .before .before .read-number .ensures in
-    let t = k .before .before .read-number2 .ensures in
-    let p = k .read-number3 .ensures in
-    λ e q. numbers-by (a .args .limits) e (values a) q (bad-t (entry a) (values a) _ _ _ _ _ _ m t p (c .before .before .if1 .left) (c .if2 .taken))
+    let t = c .before .before .before in
+    let a = at-m (to-m t) in
+    refuse a (c .refused2 .result) (t .read-number2 .result .number) (c .refused2 .ensures)
+    (past-m (t .before .before) ∙ rows-stop (t-rows a) (p-rows a ++ last a) (t .read-number2 .result .number) (t .read-number2 .ensures .0) (c .before .if2 .taken))
+    (c .before .if2 .taken)
+
+read-number-requires-3 : tie.Need-read-number-requires-3
+read-number-requires-3 c κs = in-place (at-m (to-m (c .before .before .before))) .2
+
+refused-requires-3 : tie.Need-refused-requires-3
+refused-requires-3 c κs = search needs
 
 returns-3 : tie.Need-returns-3
 returns-3 c =
-    let k = c .before .before .before .before .before .before in
-    let a = k .before .before .before .before .before .before .before in
-    let m = k .before .before .before .before .read-number .ensures in
-    let t = k .before .before .read-number2 .ensures in
-    let p = k .read-number3 .ensures in
-    λ e q. numbers-by (a .args .limits) e (values a) q (bad-p (entry a) (values a) _ _ _ _ _ _ m t p (c .before .before .before .before .if1 .left) (c .before .before .if2 .left) (c .if3 .taken))
+    let p = c .before .before .before in
+    let a = at-m (to-m (to-t p)) in
+    refuse a (c .refused3 .result) (p .read-number3 .result .number) (c .refused3 .ensures)
+    (past-t (p .before .before) ∙ rows-stop (p-rows a) (last a) (p .read-number3 .result .number) (p .read-number3 .ensures .0) (c .before .if3 .taken))
+    (c .before .if3 .taken)
+
+refused-requires-4 : tie.Need-refused-requires-4
+refused-requires-4 c κs = search needs
 
 returns-4 : tie.Need-returns-4
 returns-4 c =
-    let k = c .before .before .before .before .before .before .before .before in
-    let a = k .before .before .before .before .before .before .before in
-    let m = k .before .before .before .before .read-number .ensures in
-    let t = k .before .before .read-number2 .ensures in
-    let p = k .read-number3 .ensures in
-    λ e q. numbers-by (a .args .limits) e (values a) q (all-kept (entry a) (values a) _ _ _ _ _ _ m t p (c .before .before .before .before .before .before .if1 .left) (c .before .before .before .before .if2 .left) (c .before .before .if3 .left))
+    let e = c .before .before .before .before in
+    let a = at-m (to-m (to-t (e .before .before))) in
+    refuse a (c .refused4 .result) 11 (c .refused4 .ensures) (below e ∙ rw (lt-ltb _ _ (c .before .if4 .taken))) (λ z. absurd (omega arith))
+
+returns-5 : tie.Need-returns-5
+returns-5 c =
+    let e = c .before .before .before in
+    let p = e .before .before in
+    let t = to-t p in
+    let m = to-m t in
+    let a = at-m m in
+    judged-accepted (rows a) (limits a) (values a) _ refl (below e ∙ rw (le-ltb _ _ (c .if4 .left)))
+    (record { m-is = m .read-number .ensures .1; t-is = t .read-number2 .ensures .1; p-is = p .read-number3 .ensures .1 })
 
 pub read-numbers-spec : {M : Type 1} → statement M
 read-numbers-spec =
     tie.close
     (tie.spec
     read-number-requires
-    read-number-requires-2
-    read-number-requires-3
+    refused-requires
     returns
+    read-number-requires-2
+    refused-requires-2
     returns-2
+    read-number-requires-3
+    refused-requires-3
     returns-3
-    returns-4)
+    refused-requires-4
+    returns-4
+    returns-5)

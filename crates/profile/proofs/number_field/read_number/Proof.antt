@@ -3,9 +3,12 @@ use borrow.Author.Needs.{needs}
 use Prim.Native.Nat.{ℕ}
 use mathlib.Core.Path.{refl, _∙_, ap}
 use mathlib.Core.List.{List}
+use mathlib.Core.Option.{some}
 use denote.Ref.{now}
 use Rattle.grammar.specs.Numerals.{limitedValue}
-use Rattle.profile.specs.Fields.{numberReading, isNumber}
+use Rattle.grammar.specs.Rules.{firstOf}
+use Rattle.profile.specs.Fields.{numberReading}
+use Rattle.profile.specs.Reader.{numberRow}
 use Rattle.profile.proofs.FieldLaws.{number-there}
 use Rattle.profile.proofs.SlotLaws.{slot-none}
 use Rattle.profile.proofs.number_field.read_number.Statement.{statement}
@@ -30,7 +33,7 @@ returns-2 c =
     let f = c .before .before in
     let a = f .before .before .before in
     let n = number-there (now (a .args .t)) (a .args .span) (a .args .rule) (f .if1 .left) (a .pre) in (
-      c .written .ensures .0 ∙ ap (isNumber (a .args .rule)) (c .before .part .ensures) ∙ n .0,
+      c .written .ensures .0 ∙ ap (λ (t : List ℕ). firstOf (numberRow (a .args .rule) (some t))) (c .before .part .ensures) ∙ n .0,
       c .written .ensures .1 ∙ ap (λ (t : List ℕ). limitedValue (numberReading (a .args .rule) t)) (c .before .part .ensures) ∙ n .1,
     )
 

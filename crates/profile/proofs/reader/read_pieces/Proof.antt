@@ -7,7 +7,7 @@ use Rattle.grammar.specs.Items.{items}
 use Prim.Native.Nat.{ℕ}
 use mathlib.Core.List.{List, []}
 use denote.Ref.{now}
-use Rattle.profile.specs.Limits.{idOf, profileOf, editionTwo}
+use Rattle.profile.specs.Limits.{idOf, profileOf, editionTwo, limitsOf}
 use Rattle.profile.specs.declared.fields.Reading.{Reading}
 use Rattle.grammar.specs.Parts.{partAt}
 use Rattle.profile.specs.Reader.{rowsFor}
@@ -28,14 +28,14 @@ seen j =
     (subst (λ (t : List ℕ). ValuesAre t (cond (not (eqb (a .args .places .params .at) 0)) (items t) []) (j .before .values-at .result)) (j .before .before .before .part2 .ensures) (j .before .values-at .ensures))
 
 -- what the judge said of it
-said : (j : tie.After-judge) → Judged (rowsFor editionTwo (j .before .before .before .before .before .id-number .result) (j .before .before .before .before .version-in .result) (slotsIn (partAt (now (start j .args .s)) (start j .args .places .params)) (j .before .values-at .result)) (j .before .values-at .result .strange) (slotIn (now (start j .args .s)) (start j .args .places .salt)) (slotIn (now (start j .args .s)) (start j .args .places .output))) (profileOf editionTwo (j .before .before .before .before .before .id-number .result)) (slotsIn (partAt (now (start j .args .s)) (start j .args .places .params)) (j .before .values-at .result)) (j .judge .result)
+said : (j : tie.After-judge) → Judged (rowsFor editionTwo (j .before .before .before .before .before .id-number .result) (j .before .before .before .before .version-in .result) (slotsIn (partAt (now (start j .args .s)) (start j .args .places .params)) (j .before .values-at .result)) (j .before .values-at .result .strange) (slotIn (now (start j .args .s)) (start j .args .places .salt)) (slotIn (now (start j .args .s)) (start j .args .places .output))) (limitsOf (profileOf editionTwo (j .before .before .before .before .before .id-number .result))) (slotsIn (partAt (now (start j .args .s)) (start j .args .places .params)) (j .before .values-at .result)) (j .judge .result)
 said j =
     let a = start j in
     let s = now (a .args .s) in
     let v = j .before .values-at .result in
     let id = j .before .before .before .before .before .id-number .result in
     subst
-    (λ (t : List ℕ). Judged (rowsFor editionTwo id (j .before .before .before .before .version-in .result) (slotsIn t v) (v .strange) (slotIn s (a .args .places .salt)) (slotIn s (a .args .places .output))) (profileOf editionTwo id) (slotsIn t v) (j .judge .result))
+    (λ (t : List ℕ). Judged (rowsFor editionTwo id (j .before .before .before .before .version-in .result) (slotsIn t v) (v .strange) (slotIn s (a .args .places .salt)) (slotIn s (a .args .places .output))) (limitsOf (profileOf editionTwo id)) (slotsIn t v) (j .judge .result))
     (j .before .before .before .part2 .ensures) (j .judge .ensures)
 
 part-requires : tie.Need-part-requires

@@ -2,7 +2,7 @@
 use mathlib.Core.Path.{_∙_}
 use borrow.Author.Needs.{needs}
 use denote.Ref.{now}
-use Rattle.profile.proofs.Shorts.{short-writing}
+use Rattle.profile.proofs.Shorts.{short-by}
 use Rattle.profile.proofs.writer.write_short.Statement.{statement}
 use Rattle.profile.proofs.writer.write_short.Tie as tie
 
@@ -26,7 +26,7 @@ returns c =
     let w = c .before .before in
     let u = w .before .before .before .before in
     let a = u .before .before .before .before .args in
-    w .write .ensures ∙ short-writing (a .id) (now (a .salt)) (now (a .output)) (now (a .buf)) (a .at) (u .usual-fields .result) (u .usual-fields .ensures)
+    w .write .ensures ∙ short-by (a .id) (now (a .salt)) (now (a .output)) (now (a .buf)) (a .at) (u .usual-fields .result) (u .usual-fields .ensures)
 
 pub write-short-spec : {M : Type 1} → statement M
 write-short-spec =
