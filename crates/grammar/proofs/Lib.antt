@@ -6,6 +6,7 @@ pub mod Lists
 pub mod ClassLaws
 pub mod Writing
 pub mod Over
+pub mod Wrote
 pub mod Groups
 pub mod B64Laws
 pub mod B64Code

@@ -2,6 +2,7 @@ pub mod Text
 pub mod Bytes
 pub mod Units
 pub mod Place
+pub mod PlaceSteps
 pub mod B64
 pub mod Decimal
 pub mod Numerals

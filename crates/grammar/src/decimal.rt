@@ -9,7 +9,7 @@ ghost use lib.IntN.{pos, negℤ, natAbs};
 ghost use mathlib.Core.Path.{_≡_};
 ghost use mathlib.Core.List.{_++_};
 ghost use lib.ListN.{length, drop};
-ghost use Rattle.grammar.specs.Place.{outcome};
+ghost use Rattle.grammar.specs.Place.{outcome, put};
 ghost use Rattle.grammar.specs.Decimal.{isUnsigned, value, digits, decimalText};
 ghost use Rattle.grammar.specs.Numerals.{numeral, least, greatest, signed, decimalReading, limitedReading, decimalWriting};
 ghost use Rattle.grammar.specs.DecimalSteps.{upTo, unsignedReading, plain, minus, complementOf};
@@ -221,6 +221,28 @@ fn put_digits(value: u64, buf: &mut [u8]) -> usize
     }
     buf[0] = 48 + rest as u8;
     count
+}
+
+// How many characters the text of a number without a sign has.
+pub fn unsigned_len(value: u64) -> Chars
+    ensures { λ r. ⌜ r .0 ≡ length (digits value) ⌝ }
+{
+    Chars(count_digits(value))
+}
+
+// The text of a number without a sign into `buf` from `at` on. 17: it doesn't fit.
+pub fn write_unsigned(value: u64, buf: &mut [u8], at: usize) -> Written
+    ensures { λ r. ⌜ outcome (r .number) (r .count .0) (now (buf .exit)) ≡ put (now (buf .entry)) at (digits value) ⌝ }
+{
+    let count = unsigned_len(value);
+    if !has_room(buf.len(), at, count.0) {
+        return Written {
+            number: 17,
+            count: Chars(0),
+        };
+    }
+    put_digits(value, &mut buf[at..]);
+    Written { number: 0, count }
 }
 
 // How many characters the text of a number has.

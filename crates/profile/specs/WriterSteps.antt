@@ -1,12 +1,10 @@
 -- What the private steps of the writer promise each other. Nothing here is a rule: no public contract cites it.
 -- Assumes nothing.
 use Prim.Native.Nat.{ℕ, _+_}
-use mathlib.Core.Path.{_≡_}
 use mathlib.Core.List.{List, [], _∷_, _++_}
 use mathlib.Core.Option.{none, some}
 use lib.ListN.{length}
 use Rattle.grammar.specs.Text.{text}
-use Rattle.grammar.specs.Place.{over}
 use Rattle.grammar.specs.Pieces.{Slot}
 use Rattle.profile.specs.Fields.{FieldSet, writeNumber, writeBytes, writeVersion}
 use Rattle.profile.specs.declared.fields.Fields.{Fields}
@@ -72,8 +70,3 @@ piecesLength l name f =
     + taggedLength 6 (writeBytes (f .ad))
     + taggedLength 1 (writeBytes (f .salt))
     + taggedLength 1 (writeBytes (f .output))
-
--- a text was put at the start of a buffer, and counted
-pub record Wrote (t before after : List ℕ) (count : ℕ) : Type 0 where
-  pub count-is : count ≡ length t
-  pub left : after ≡ over before 0 t

@@ -6,7 +6,7 @@ ghost use mathlib.Core.Path.{_≡_};
 ghost use mathlib.Core.List.{_∷_};
 ghost use lib.ListN.{length};
 ghost use Rattle.profile.specs.Limits.{idOf, profileOf, editionTwo};
-ghost use Rattle.profile.specs.WriterSteps.{Wrote};
+ghost use Rattle.grammar.specs.PlaceSteps.{Wrote};
 
 // The number of an id, counted from 1; 0 for an unknown one.
 pub fn id_number(name: &[u8]) -> u8

@@ -20,7 +20,8 @@ ghost use Rattle.profile.specs.Fields.{numberReading, misplacedNumber, r
 ghost use Rattle.profile.specs.Reader.{numberRow};
 ghost use Rattle.profile.specs.Claims.{room};
 ghost use Rattle.profile.specs.ReaderSteps.{slotIn};
-ghost use Rattle.profile.specs.WriterSteps.{tagged, taggedLength, Wrote};
+ghost use Rattle.grammar.specs.PlaceSteps.{Wrote};
+ghost use Rattle.profile.specs.WriterSteps.{tagged, taggedLength};
 
 // What was read: the number of the row that applies, 0 where none does, and the value.
 pub struct Number {

@@ -1,6 +1,7 @@
 // A tag and a text after it, at the start of a buffer: the tags are `$`, `$v=`, and a comma with a parameter's name and `=`.
 use grammar::b64::encode;
-use grammar::decimal::write_decimal;
+use grammar::decimal::unsigned_len;
+use grammar::decimal::write_unsigned;
 use grammar::place::write_text;
 use grammar::units::Bytes;
 use grammar::units::encoded_len;
@@ -11,7 +12,8 @@ ghost use lib.ListN.{length};
 ghost use Rattle.grammar.specs.Decimal.{digits};
 ghost use Rattle.profile.specs.Fields.{writeBytes};
 ghost use Rattle.profile.specs.Claims.{room};
-ghost use Rattle.profile.specs.WriterSteps.{tagged, taggedLength, Wrote};
+ghost use Rattle.grammar.specs.PlaceSteps.{Wrote};
+ghost use Rattle.profile.specs.WriterSteps.{tagged, taggedLength};
 
 // A text alone.
 pub fn put_text(text: &[u8], out: &mut [u8]) -> usize
@@ -28,7 +30,7 @@ pub fn put_decimal(tag: &[u8], n: u32, out: &mut [u8]) -> usize
     ensures { λ r. ⌜ Wrote (now (tag .entry) ++ digits n) (now (out .entry)) (now (out .exit)) r ⌝ }
 {
     let at = put_text(tag, out);
-    let w = write_decimal(n as i64, out, at);
+    let w = write_unsigned(n as u64, out, at);
     at + w.count.0
 }
 
@@ -37,7 +39,7 @@ pub fn decimal_len(tag: usize, n: u32) -> usize
     requires { ⌜ tag ≤ room ⌝ }
     ensures { λ r. ⌜ r ≡ tag + length (digits n) ⌝ }
 {
-    let text = grammar::decimal::decimal_len(n as i64);
+    let text = unsigned_len(n as u64);
     tag + text.0
 }
 

@@ -7,7 +7,8 @@ ghost use mathlib.Core.Path.{_≡_};
 ghost use lib.ListN.{length};
 ghost use Rattle.grammar.specs.Text.{text};
 ghost use Rattle.profile.specs.Fields.{writeVersion};
-ghost use Rattle.profile.specs.WriterSteps.{tagged, taggedLength, Wrote};
+ghost use Rattle.grammar.specs.PlaceSteps.{Wrote};
+ghost use Rattle.profile.specs.WriterSteps.{tagged, taggedLength};
 
 // The length of the version piece with its `$`; nothing where the version is absent.
 pub fn version_len(version: Version) -> usize

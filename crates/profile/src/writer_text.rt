@@ -15,7 +15,8 @@ ghost use lib.ListN.{length};
 ghost use Rattle.profile.specs.Limits.{profileOf, editionTwo};
 ghost use Rattle.profile.specs.Fields.{fieldSet};
 ghost use Rattle.profile.specs.Claims.{room};
-ghost use Rattle.profile.specs.WriterSteps.{costsText, costsLength, itemsText, dollared, headText, piecesText, piecesLength, Wrote};
+ghost use Rattle.grammar.specs.PlaceSteps.{Wrote};
+ghost use Rattle.profile.specs.WriterSteps.{costsText, costsLength, itemsText, dollared, headText, piecesText, piecesLength};
 
 // The length of the numbers as items.
 fn costs_len(limits: Limits, n: Fields) -> usize

@@ -7,7 +7,7 @@ use borrow.Author.Needs.{needs}
 use denote.Ref.{now}
 use lib.ListN.{length}
 use Rattle.profile.specs.Limits.{profileOf, editionTwo}
-use Rattle.profile.specs.WriterSteps.{Wrote}
+use Rattle.grammar.specs.PlaceSteps.{Wrote}
 use Rattle.profile.proofs.LimitLaws.{no-name}
 use Rattle.profile.proofs.ids.put_name.Statement.{statement}
 use Rattle.profile.proofs.ids.put_name.Tie as tie

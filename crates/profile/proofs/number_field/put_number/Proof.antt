@@ -5,7 +5,7 @@ use borrow.Author.Needs.{needs}
 use denote.Ref.{now}
 use Rattle.grammar.specs.Decimal.{digits}
 use Rattle.profile.specs.Fields.{writeNumber}
-use Rattle.profile.proofs.WriterLaws.{wrote-nothing}
+use Rattle.grammar.proofs.Wrote.{wrote-nothing}
 use Rattle.profile.proofs.number_field.put_number.Statement.{statement}
 use Rattle.profile.proofs.number_field.put_number.Tie as tie
 

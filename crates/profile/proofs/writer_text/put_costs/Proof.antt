@@ -8,8 +8,9 @@ use denote.Ref.{now}
 use lib.ListN.{length}
 use Rattle.grammar.specs.Text.{text}
 use Rattle.profile.specs.Fields.{writeNumber}
-use Rattle.profile.specs.WriterSteps.{tagged, Wrote}
-use Rattle.profile.proofs.WriterLaws.{wrote-then, RoomFor, room-then, room-first}
+use Rattle.grammar.specs.PlaceSteps.{Wrote}
+use Rattle.profile.specs.WriterSteps.{tagged}
+use Rattle.grammar.proofs.Wrote.{wrote-then, RoomFor, room-then, room-first}
 use Rattle.profile.proofs.writer_text.put_costs.Statement.{statement}
 use Rattle.profile.proofs.writer_text.put_costs.Tie as tie
 

@@ -9,8 +9,9 @@ use lib.ListN.{length}
 use Rattle.grammar.specs.Text.{text}
 use Rattle.profile.specs.Limits.{profileOf, editionTwo}
 use Rattle.profile.specs.Fields.{writeBytes}
-use Rattle.profile.specs.WriterSteps.{tagged, headText, Wrote}
-use Rattle.profile.proofs.WriterLaws.{wrote-then, RoomFor, room-then, room-first}
+use Rattle.grammar.specs.PlaceSteps.{Wrote}
+use Rattle.profile.specs.WriterSteps.{tagged, headText}
+use Rattle.grammar.proofs.Wrote.{wrote-then, RoomFor, room-then, room-first}
 use Rattle.profile.proofs.writer_text.put_string.Statement.{statement}
 use Rattle.profile.proofs.writer_text.put_string.Tie as tie
 
