@@ -1,0 +1,56 @@
+-- `accounts::line::line_number` meets its contract, row by row. Assumes nothing.
+use mathlib.Core.Bool.{false, true}
+use mathlib.Core.Path.{_≡_, sym, ap, _∙_}
+use native.Mathlib.Omega.{arith}
+use borrow.Author.Needs.{needs}
+use borrow.Author.Tests.{lt-ltb, le-ltb}
+use denote.Ref.{now}
+use Rattle.grammar.specs.Rules.{isName}
+use Rattle.accounts.proofs.LineLaws.{line-long, line-untabbed, line-named, line-unnamed}
+use Rattle.accounts.proofs.line.line_number.Statement.{statement}
+use Rattle.accounts.proofs.line.line_number.Tie as tie
+
+returns : tie.Need-returns
+returns c = sym (line-long (now (c .before .before .args .line)) (c .if1 .taken))
+
+returns-2 : tie.Need-returns-2
+returns-2 c =
+    let s = c .before .before .before in
+    sym (line-untabbed (now (s .args .line)) (c .before .if1 .left) (omega (arith, s .pre, c .if2 .taken)))
+
+sub-is-name : tie.Need-sub-is-name
+sub-is-name c = search needs
+
+part-is-name-start : tie.Need-part-is-name-start
+part-is-name-start c = search needs
+
+part-is-name-end : tie.Need-part-is-name-end
+part-is-name-end c = search needs
+
+is-name-requires : tie.Need-is-name-requires
+is-name-requires c κs = search needs
+
+returns-3 : tie.Need-returns-3
+returns-3 c =
+    let e = c .before .before .before in
+    let s = e .before .before .before in
+    sym (line-named (now (s .args .line)) (s .args .tab) (s .pre) (e .before .if1 .left) (omega (arith, e .if2 .left)) (sym (c .before .is-name .ensures) ∙ c .if3 .taken))
+
+returns-4 : tie.Need-returns-4
+returns-4 c =
+    let e = c .before .before .before in
+    let s = e .before .before .before in
+    sym (line-unnamed (now (s .args .line)) (s .args .tab) (s .pre) (e .before .if1 .left) (omega (arith, e .if2 .left)) (sym (c .before .is-name .ensures) ∙ c .if3 .left))
+
+pub line-number-spec : {M : Type 1} → statement M
+line-number-spec =
+    tie.close
+    (tie.spec
+    returns
+    returns-2
+    sub-is-name
+    part-is-name-start
+    part-is-name-end
+    is-name-requires
+    returns-3
+    returns-4)

@@ -1,0 +1,56 @@
+-- Account text: its lines, and the number of a line.
+-- Assumes nothing.
+use Prim.Native.Nat.{ℕ}
+use mathlib.Core.Bool.{not, cond, _&&_}
+use mathlib.Core.List.{List, [], _∷_, _++_}
+use lib.Dec.{ltb, eqb}
+use lib.ListN.{length}
+use Rattle.grammar.specs.Text.{has, cut}
+use Rattle.grammar.specs.Rules.{Row, row, firstOf, isName}
+use Rattle.profile.specs.Limits.{editionTwo}
+use Rattle.profile.specs.Entries.{reading}
+use Rattle.accounts.specs.declared.line.Answer.{Answer}
+
+-- ---- lines
+
+-- a last line without a line feed counts if it has any byte
+abbrev pub lastLine : List ℕ → List (List ℕ)
+lastLine [] = []
+lastLine (a ∷ u) = (a ∷ u) ∷ []
+
+-- the lines of a text whose first line has begun with the bytes u: a line ends at a line feed
+abbrev pub linesFrom : List ℕ → List ℕ → List (List ℕ)
+linesFrom u [] = lastLine u
+linesFrom u (a ∷ s) = cond (eqb a 10) (u ∷ linesFrom [] s) (linesFrom (u ++ (a ∷ [])) s)
+
+unfoldable pub lines : List ℕ → List (List ℕ)
+lines s = linesFrom [] s
+
+-- ---- one line
+
+-- name, tab, string: the string is all after the line's first tab
+abbrev pub nameOf : List ℕ → List ℕ
+nameOf l = cut 9 l .0
+
+abbrev pub stringOf : List ℕ → List ℕ
+stringOf l = cut 9 l .1
+
+-- in bytes, without its line feed
+abbrev pub longestLine : ℕ
+longestLine = 512
+
+abbrev pub lineRows : List ℕ → List Row
+lineRows l =
+    row 18 (ltb longestLine (length l))
+    ∷ row 19 (not (has 9 l && isName (nameOf l)))
+    ∷ []
+
+unfoldable pub lineNumber : List ℕ → ℕ
+lineNumber l = firstOf (lineRows l)
+
+abbrev pub stringAnswer : List ℕ → Answer
+stringAnswer s = record { number = reading editionTwo s .number; kind = reading editionTwo s .kind }
+
+-- 18 or 19 where that row applies; otherwise what the profile reader gives for the line's own string
+unfoldable pub lineAnswer : List ℕ → Answer
+lineAnswer l = cond (eqb (lineNumber l) 0) (stringAnswer (stringOf l)) (record { number = lineNumber l; kind = 0 })

@@ -1,0 +1,40 @@
+-- The text of the listing: a header, and a line for each line of the input. Each ends in a line feed.
+-- Assumes nothing.
+use Prim.Native.Nat.{ℕ, suc, _-_, _^_}
+use mathlib.Core.Bool.{cond}
+use mathlib.Core.List.{List, [], _∷_, _++_}
+use lib.Dec.{eqb, ltb}
+use Rattle.grammar.specs.Text.{text}
+use Rattle.grammar.specs.Decimal.{digits}
+use Rattle.accounts.specs.Lines.{lines, lineAnswer}
+use Rattle.accounts.specs.declared.line.Answer.{Answer}
+
+-- line, answer, kind, parted by tabs
+abbrev pub header : List ℕ
+header = text "line" ++ (9 ∷ (text "answer" ++ (9 ∷ (text "kind" ++ (10 ∷ [])))))
+
+-- the name of a kind
+abbrev pub kindText : ℕ → List ℕ
+kindText k = cond (eqb k 1) (text "parameters") (cond (eqb k 2) (text "salt") (cond (eqb k 3) (text "hash") (text "-")))
+
+abbrev pub kindLine : ℕ → List ℕ
+kindLine k = kindText k ++ (10 ∷ [])
+
+-- the number of a line, its answer and its kind
+unfoldable pub rowText : ℕ → Answer → List ℕ
+rowText n a = digits n ++ (9 ∷ []) ++ digits (a .number) ++ (9 ∷ []) ++ kindLine (a .kind)
+
+abbrev pub largestLine : ℕ
+largestLine = 2 ^ 64 - 1
+
+-- the number of the next line. Free answer: past the largest u64 it stays
+unfoldable pub nextLine : ℕ → ℕ
+nextLine n = cond (ltb n largestLine) (suc n) n
+
+-- the rows of lines of which the first has the number n
+abbrev pub rowsFrom : ℕ → List (List ℕ) → List ℕ
+rowsFrom n [] = []
+rowsFrom n (l ∷ ls) = rowText n (lineAnswer l) ++ rowsFrom (nextLine n) ls
+
+unfoldable pub listing : List ℕ → List ℕ
+listing s = header ++ rowsFrom 1 (lines s)

@@ -1,0 +1,3 @@
+// Account text: one account a line, its name, a tab and its PHC string. The line rule, and the listing of any input.
+pub mod line;
+pub mod row;

@@ -1,0 +1,46 @@
+// One line of account text, without its line feed: name, tab, string.
+use grammar::bytes::is_name;
+use grammar::scan::next_at;
+use profile::reader::read;
+ghost use mathlib.Core.Path.{_≡_};
+ghost use Rattle.grammar.specs.Text.{find};
+ghost use Rattle.accounts.specs.Lines.{lineNumber, lineAnswer};
+
+// The number of a line, and the kind of its string (1 parameters, 2 salt, 3 hash), 0 where it is refused.
+pub struct Answer {
+    pub number: u8,
+    pub kind: u8,
+}
+
+// Rows 18 and 19, given the place of the line's first tab; 0 where neither applies.
+fn line_number(line: &[u8], tab: usize) -> u8
+    requires { ⌜ tab ≡ find 9 (now line) ⌝ }
+    ensures { λ r. ⌜ r ≡ lineNumber (now (line .entry)) ⌝ }
+{
+    if 512 < line.len() {
+        return 18;
+    }
+    if line.len() <= tab {
+        return 19;
+    }
+    if is_name(&line[0..tab]) {
+        return 0;
+    }
+    19
+}
+
+// Judges one line, whatever bytes it holds: 18, 19, or what the profile reader says of all after its first tab.
+pub fn judge(line: &[u8]) -> Answer
+    ensures { λ r. ⌜ r ≡ lineAnswer (now (line .entry)) ⌝ }
+{
+    let tab = next_at(line, 0, b'\t');
+    let number = line_number(line, tab);
+    if number != 0 {
+        return Answer { number, kind: 0 };
+    }
+    let r = read(&line[tab + 1..]);
+    Answer {
+        number: r.number,
+        kind: r.kind,
+    }
+}
