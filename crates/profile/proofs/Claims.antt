@@ -1,23 +1,23 @@
--- The claims of specs/Claims.antt, proved: over every edition that passes the tests that they take, and for edition two.
+-- The claims of specs/Claims.antt but `ShortAgrees` and `Examples`, proved: over every edition that passes the tests that they take, and for edition two.
 -- Assumes nothing.
 use Prim.Native.Nat.{ℕ, _+_, _≤_}
-use mathlib.Core.Bool.{Bool, true, false, not, cond, _||_}
+use mathlib.Core.Bool.{Bool, true, false, not, cond, _||_, true≢false}
 use mathlib.Core.List.{List, _++_}
-use mathlib.Core.Path.{_≡_, refl, sym, _∙_, ap}
+use mathlib.Core.Path.{_≡_, refl, sym, _∙_, ap, subst}
 use native.Mathlib.Omega.{arith}
 use lib.Dec.{leb, eqb}
 use lib.ListN.{length, take, drop, replicate, length-append}
-use borrow.Author.Tests.{eqb-true, leb-true, le-leb, lt-leb}
-use Rattle.grammar.specs.Place.{Outcome, outcome, over, putAfter}
+use borrow.Author.Tests.{eqb-true, eq-eqb, leb-true, le-leb, lt-leb}
+use Rattle.grammar.specs.Place.{Outcome, outcome, refused, over, put, putAfter}
 use Rattle.grammar.specs.Pieces.{Pieces, pieces}
 use Rattle.grammar.proofs.Tests.{from-within}
 use Rattle.grammar.proofs.Writing.{put-done, put-clear, over-back}
-use Rattle.profile.specs.Limits.{Profile, lowest, highest, profileOf, editionTwo}
+use Rattle.profile.specs.Limits.{Profile, lowest, highest, profileOf, editionTwo, room}
 use Rattle.profile.specs.Fields.{FieldSet, chosen, writeBytes}
 use Rattle.profile.specs.Reader.{answer, fieldsOf}
 use Rattle.profile.specs.Writer.{OfBytes, Permitted, refusal, fieldPieces, formatted}
 use Rattle.profile.specs.Entries.{kindOf, reading, decoded, writing}
-use Rattle.profile.specs.Claims.{Demand3, room, WrittenTo, CarrySame, EntriesDemand3, EntriesAgree, Lanes, Lengths}
+use Rattle.profile.specs.Claims.{Demand3, WrittenAt, WrittenTo, Carries, CarrySame, EntriesDemand3, EntriesAgree, Lanes, Lengths}
 use Rattle.profile.specs.declared.fields.ByteString.{ByteString}
 use Rattle.profile.specs.declared.fields.ByteString.the-variants.{Keyid, Data, Salt, Output}
 use Rattle.profile.specs.declared.fields.Reading.{Reading}
@@ -46,14 +46,17 @@ demand-3-two = demand-3 editionTwo edition-two-sound
 
 -- ---- outcomes
 
--- a number of 0 where bytes were to be written was a number of 0 before
-after-zero : (n : ℕ) (buffer : List ℕ) (at : ℕ) (bytes : List ℕ) → putAfter n buffer at bytes .number ≡ 0 → n ≡ 0
-unfolding putAfter
-after-zero n buffer at bytes z = go (eqb n 0) refl z
+-- a number of 0 where bytes were to be written was a number of 0 before, and they fit
+after-zero : (n : ℕ) (buffer : List ℕ) (at : ℕ) (bytes : List ℕ) → putAfter n buffer at bytes .number ≡ 0 → (n ≡ 0) × (at + length bytes ≤ length buffer)
+unfolding putAfter put
+after-zero n buffer at bytes z = go (eqb n 0) refl (leb (at + length bytes) (length buffer)) refl z
   where
-    go : (b : Bool) → eqb n 0 ≡ b → cond b (putAfter 0 buffer at bytes) (outcome n 0 buffer) .number ≡ 0 → n ≡ 0
-    go true q z = eqb-true n 0 q
-    go false q z = z
+    go : (b : Bool) → eqb n 0 ≡ b → (r : Bool) → leb (at + length bytes) (length buffer) ≡ r
+        → cond b (cond r (outcome 0 (length bytes) (over buffer at bytes)) (refused 17 buffer)) (refused n buffer) .number ≡ 0
+        → (n ≡ 0) × (at + length bytes ≤ length buffer)
+    go true q true t z = (eqb-true n 0 q, leb-true (at + length bytes) (length buffer) t)
+    go true q false t z = absurd (omega arith)
+    go false q r t z = absurd (true≢false (sym (eq-eqb n 0 z) ∙ q))
 
 -- bytes that fit are written where no number refuses
 after-done : (n : ℕ) (buffer : List ℕ) (at : ℕ) (bytes : List ℕ) → n ≡ 0 → at + length bytes ≤ length buffer
@@ -66,20 +69,33 @@ read-kind : (e : List Profile) (ok : sound e ≡ true) (f : FieldSet) → Permit
 unfolding fieldPieces
 read-kind e ok f h = ap (λ (p : Pieces). record { number = 0; kind = kindOf (p .salt) (p .output); fields = f .numbers }) (pieces-of e ok f h)
 
-pub entries-agree : (e : List Profile) → sound e ≡ true → ((f : FieldSet) → Permitted e f → length (formatted e f) ≤ room) → EntriesAgree e
-unfolding writing reading decoded
-entries-agree e ok short =
+reading-fields : (e : List Profile) (s : List ℕ) → answer e s ≡ 0 → reading e s .fields ≡ fieldsOf e s .numbers
+unfolding reading
+reading-fields e s z = rw z
+
+-- an accepted string carries its fields
+carries : (e : List Profile) (s : List ℕ) → answer e s ≡ 0 → Carries e s (fieldsOf e s)
+unfolding decoded
+carries e s z =
     record {
-      writes = λ f h buffer at l.
-          let k = short f h in
-          after-done (refusal e f) buffer at (formatted e f) (not-refused e f h) (omega arith);
-      writes-only = λ f b buffer at z. permitted e f (after-zero (refusal e f) buffer at (formatted e f) z) b;
+      fields = reading-fields e s z;
+      strings = λ c buffer at l. after-done (answer e s) buffer at (chosen c (fieldsOf e s)) z l;
+    }
+
+pub entries-agree : (e : List Profile) → sound e ≡ true → EntriesAgree e
+unfolding writing reading
+entries-agree e ok =
+    record {
+      writes = λ f h buffer at l. after-done (refusal e f) buffer at (formatted e f) (not-refused e f h) l;
+      writes-only = λ f b buffer at z.
+          let q = after-zero (refusal e f) buffer at (formatted e f) z in
+          (permitted e f (q .0) b, q .1);
       reads = λ f h.
           let w = written e ok f h in
           rw (w .0, w .1) (read-kind e ok f h);
-      decodes = λ f h c buffer at l.
+      carries = λ f h.
           let w = written e ok f h in
-          rw (w .1) (after-done (answer e (formatted e f)) buffer at (chosen c f) (w .0) l);
+          subst (Carries e (formatted e f)) (w .1) (carries e (formatted e f) (w .0));
     }
 
 -- ---- demand 3, of the outcomes
@@ -91,10 +107,6 @@ over-same buffer at x y h q =
     let c : length x ≡ length y = ap (λ (o : Outcome). o .count) q in
     let b : over buffer at x ≡ over buffer at y = ap (λ (o : Outcome). o .buffer) q in
     sym (over-back buffer x at h) ∙ (λ i. take (c i) (drop at (b i))) ∙ over-back buffer y at h
-
-reading-fields : (e : List Profile) (s : List ℕ) → answer e s ≡ 0 → reading e s .fields ≡ fieldsOf e s .numbers
-unfolding reading
-reading-fields e s z = rw z
 
 module _ (e : List Profile) (s u : List ℕ) (a : answer e s ≡ 0) (b : answer e u ≡ 0) (h : CarrySame e s u) where
   -- each byte string, decoded into a buffer with room for both
@@ -125,37 +137,40 @@ pub entries-demand-3 : (e : List Profile) → sound e ≡ true → ((f : FieldSe
 entries-demand-3 e ok short =
     record {
       same-string = λ s u a b h. same-string e ok s u (zero s a) (zero u b) (same-carried e s u (zero s a) (zero u b) h);
-      same-fields = λ f g s a b v w.
-          let p = wrote f s a v in
-          let q = wrote g s b w in
-          same-fields e ok f g (p .0) (q .0) (p .1 ∙ sym (q .1));
+      same-fields = λ f g s b c i j o q v w.
+          let x = wrote f s b i o v in
+          let y = wrote g s c j q w in
+          same-fields e ok f g (x .0) (y .0) (x .1 ∙ sym (y .1));
       refused-exactly = λ s. (
-        (λ n f b w.
-            let p = wrote f s b w in
+        (λ n f buffer at b w.
+            let p = wrote f s buffer at b w in
             n (reading-number e s ∙ ap (answer e) (sym (p .1)) ∙ written e ok f (p .0) .0)),
         (λ none z.
             let k = back s z in
-            none (fieldsOf e s) (k .0) (k .1)),
+            none (fieldsOf e s) wide 0 (k .1) (k .2 wide 0 (omega arith))),
       );
       written-back = back;
     }
   where
     agree : EntriesAgree e
-    agree = entries-agree e ok short
+    agree = entries-agree e ok
 
     zero : (s : List ℕ) → reading e s .number ≡ 0 → answer e s ≡ 0
     zero s z = sym (reading-number e s) ∙ z
 
-    wrote : (f : FieldSet) (s : List ℕ) → OfBytes f → WrittenTo e f s → Permitted e f × (formatted e f ≡ s)
-    wrote f s b w =
-        let q = w wide 0 (omega arith) in
-        let p = agree .writes-only f b wide 0 (ap (λ (o : Outcome). o .number) q) in
-        (p, over-same wide 0 (formatted e f) s (omega arith) (sym (agree .writes f p wide 0 (omega arith)) ∙ q))
+    wrote : (f : FieldSet) (s buffer : List ℕ) (at : ℕ) → OfBytes f → WrittenAt e f s buffer at → Permitted e f × (formatted e f ≡ s)
+    wrote f s buffer at b w =
+        let p = agree .writes-only f b buffer at (ap (λ (o : Outcome). o .number) w) in
+        (p .0, over-same buffer at (formatted e f) s (omega (arith, p .1)) (sym (agree .writes f (p .0) buffer at (p .1)) ∙ w))
 
-    back : (s : List ℕ) → reading e s .number ≡ 0 → OfBytes (fieldsOf e s) × WrittenTo e (fieldsOf e s) s
+    back : (s : List ℕ) → reading e s .number ≡ 0 → Carries e s (fieldsOf e s) × OfBytes (fieldsOf e s) × WrittenTo e (fieldsOf e s) s
     back s z =
         let a = accepted e ok s (zero s z) in
-        (a .0 .bytes, λ buffer at l. agree .writes (fieldsOf e s) (a .0) buffer at l ∙ (λ i. outcome 0 (length (a .1 i)) (over buffer at (a .1 i))))
+        let l = short (fieldsOf e s) (a .0) in (
+          carries e s (zero s z),
+          a .0 .bytes,
+          λ buffer at r. agree .writes (fieldsOf e s) (a .0) buffer at (omega arith) ∙ (λ i. outcome 0 (length (a .1 i)) (over buffer at (a .1 i))),
+        )
 
 -- ---- edition two: lengths, agreement, lanes
 
@@ -172,7 +187,7 @@ pub entries-demand-3-two : EntriesDemand3 editionTwo
 entries-demand-3-two = entries-demand-3 editionTwo edition-two-sound (lengths .any-most)
 
 pub entries-agree-two : EntriesAgree editionTwo
-entries-agree-two = entries-agree editionTwo edition-two-sound (lengths .any-most)
+entries-agree-two = entries-agree editionTwo edition-two-sound
 
 -- an id up to 3 has at least one lane
 laned : ℕ → Profile → Bool

@@ -22,13 +22,12 @@ use Rattle.profile.specs.declared.limits.NumberRule.{NumberRule}
 use Rattle.profile.specs.declared.limits.NumberRule.the-variants.{Needed, Omitted, Fixed}
 use Rattle.profile.specs.declared.limits.BytesRule.{BytesRule}
 use Rattle.profile.specs.declared.limits.BytesRule.the-variants.{Sized, Barred}
-use Rattle.profile.specs.Limits.{Profile, inRange, versionAllowed, profileOf, editionTwo}
+use Rattle.profile.specs.Limits.{Profile, inRange, versionAllowed, profileOf, editionTwo, room}
 use Rattle.profile.specs.Fields.{FieldSet, writeNumber, writeBytes, writeVersion}
 use Rattle.profile.specs.Reader.{answer}
 use Rattle.profile.specs.Writer.{bytesAllowed, formatted}
 use Rattle.profile.specs.WriterSteps.{taggedLength}
 use Rattle.profile.specs.Entries.{reading, refusedReading, decoded}
-use Rattle.profile.specs.Claims.{room}
 use Rattle.profile.specs.declared.fields.ByteString.{ByteString}
 use Rattle.profile.specs.declared.fields.Version.{Version}
 use Rattle.profile.specs.declared.fields.Version.the-variants.{Absent, Number}

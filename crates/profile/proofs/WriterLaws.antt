@@ -16,11 +16,10 @@ use Rattle.grammar.specs.Place.{outcome, refused, hasRoom, over}
 use Rattle.grammar.specs.PlaceSteps.{Wrote}
 use Rattle.grammar.proofs.Writing.{put-done, put-full, put-clear, tail-over}
 use Rattle.grammar.proofs.Over.{over-start}
-use Rattle.profile.specs.Limits.{isSize, limitsOf, editionTwo}
+use Rattle.profile.specs.Limits.{isSize, limitsOf, editionTwo, room}
 use Rattle.profile.specs.Fields.{FieldSet, writeBytes}
 use Rattle.profile.specs.Writer.{bytesAllowed, refusal, formatted}
 use Rattle.profile.specs.Entries.{writing}
-use Rattle.profile.specs.Claims.{room}
 use Rattle.profile.specs.WriterSteps.{dollared, piecesText, piecesLength}
 use Rattle.profile.specs.declared.limits.BytesRule.{BytesRule}
 use Rattle.profile.specs.declared.limits.Limits.{Limits}

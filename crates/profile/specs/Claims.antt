@@ -1,4 +1,5 @@
--- What is proved of the rules and of the entries' outcomes: proofs/Claims.antt has a value of each record.
+-- What is proved of the rules and of the entries' outcomes. The values are in proofs/Claims.antt; of `ShortAgrees` in proofs/Shorts.antt, of
+-- `Examples` in proofs/Strings.antt.
 -- Assumes nothing.
 use Prim.Native.Nat.{ℕ, _+_, _*_, _≤_}
 use Prim.Native.String.{String}
@@ -10,7 +11,7 @@ use lib.ListN.{length}
 use Rattle.grammar.specs.Text.{text, all, empty}
 use Rattle.grammar.specs.Bytes.{isByte}
 use Rattle.grammar.specs.Place.{outcome, over}
-use Rattle.profile.specs.Limits.{Profile, editionTwo}
+use Rattle.profile.specs.Limits.{Profile, editionTwo, room}
 use Rattle.profile.specs.Fields.{FieldSet, chosen, writeBytes}
 use Rattle.profile.specs.Reader.{answer, fieldsOf}
 use Rattle.profile.specs.Writer.{OfBytes, Permitted, formatted, shortFields, shortRefusal}
@@ -29,13 +30,19 @@ pub record Demand3 (e : List Profile) : Type 0 where
   -- the fields of an accepted string are permitted, and are written back to exactly that string
   pub written-back : (s : List ℕ) → answer e s ≡ 0 → Permitted e (fieldsOf e s) × (formatted e (fieldsOf e s) ≡ s)
 
--- the room that every permitted string fits
-abbrev pub room : ℕ
-room = 265
+-- fields are written to a string (01) by a call of the writer: it answers 0 and the bytes it wrote are that string
+abbrev pub WrittenAt : List Profile → FieldSet → List ℕ → List ℕ → ℕ → Type 0
+WrittenAt e f s buffer at = writing e f buffer at ≡ outcome 0 (length s) (over buffer at s)
 
--- fields are written to a string: given that room, the writer answers 0 and the bytes it wrote are that string
+-- by every call with room for any string of edition two
 abbrev pub WrittenTo : List Profile → FieldSet → List ℕ → Type 0
-WrittenTo e f s = (buffer : List ℕ) (at : ℕ) → at + room ≤ length buffer → writing e f buffer at ≡ outcome 0 (length s) (over buffer at s)
+WrittenTo e f s = (buffer : List ℕ) (at : ℕ) → at + room ≤ length buffer → WrittenAt e f s buffer at
+
+-- a string carries fields (01): the reader gives the number fields, the byte-string entry each byte string where it fits
+pub record Carries (e : List Profile) (s : List ℕ) (f : FieldSet) : Type 0 where
+  pub fields : reading e s .fields ≡ f .numbers
+  pub strings : (c : ByteString) (buffer : List ℕ) (at : ℕ) → at + length (chosen c f) ≤ length buffer
+      → decoded e c s buffer at ≡ outcome 0 (length (chosen c f)) (over buffer at (chosen c f))
 
 -- two strings carry the same nine fields: the reader gives the same number fields, the byte-string entry the same outcomes
 pub record CarrySame (e : List Profile) (s u : List ℕ) : Type 0 where
@@ -45,21 +52,23 @@ pub record CarrySame (e : List Profile) (s u : List ℕ) : Type 0 where
 -- demand 3, of the outcomes that the contracts of the profile reader, the byte-string entry and the writer name
 pub record EntriesDemand3 (e : List Profile) : Type 0 where
   pub same-string : (s u : List ℕ) → reading e s .number ≡ 0 → reading e u .number ≡ 0 → CarrySame e s u → s ≡ u
-  pub same-fields : (f g : FieldSet) (s : List ℕ) → OfBytes f → OfBytes g → WrittenTo e f s → WrittenTo e g s → f ≡ g
-  pub refused-exactly : (s : List ℕ) → (reading e s .number ≢ 0) ↔ ((f : FieldSet) → OfBytes f → WrittenTo e f s → ⊥)
-  pub written-back : (s : List ℕ) → reading e s .number ≡ 0 → OfBytes (fieldsOf e s) × WrittenTo e (fieldsOf e s) s
+  pub same-fields : (f g : FieldSet) (s b c : List ℕ) (i j : ℕ) → OfBytes f → OfBytes g → WrittenAt e f s b i → WrittenAt e g s c j → f ≡ g
+  pub refused-exactly : (s : List ℕ)
+      → (reading e s .number ≢ 0) ↔ ((f : FieldSet) (buffer : List ℕ) (at : ℕ) → OfBytes f → WrittenAt e f s buffer at → ⊥)
+  pub written-back : (s : List ℕ) → reading e s .number ≡ 0
+      → Carries e s (fieldsOf e s) × OfBytes (fieldsOf e s) × WrittenTo e (fieldsOf e s) s
 
 -- and fields that go out come back
 pub record EntriesAgree (e : List Profile) : Type 0 where
-  -- the writer answers 0 exactly for permitted fields, and what it wrote is their string
-  pub writes : (f : FieldSet) → Permitted e f → (buffer : List ℕ) (at : ℕ) → at + room ≤ length buffer
-      → writing e f buffer at ≡ outcome 0 (length (formatted e f)) (over buffer at (formatted e f))
-  pub writes-only : (f : FieldSet) → OfBytes f → (buffer : List ℕ) (at : ℕ) → writing e f buffer at .number ≡ 0 → Permitted e f
+  -- the writer answers 0 exactly for permitted fields whose string fits, and what it wrote is that string
+  pub writes : (f : FieldSet) → Permitted e f → (buffer : List ℕ) (at : ℕ) → at + length (formatted e f) ≤ length buffer
+      → WrittenAt e f (formatted e f) buffer at
+  pub writes-only : (f : FieldSet) → OfBytes f → (buffer : List ℕ) (at : ℕ) → writing e f buffer at .number ≡ 0
+      → Permitted e f × (at + length (formatted e f) ≤ length buffer)
   -- the reader and the byte-string entry give those nine fields back
   pub reads : (f : FieldSet) → Permitted e f
       → reading e (formatted e f) ≡ record { number = 0; kind = kindOf (writeBytes (f .salt)) (writeBytes (f .output)); fields = f .numbers }
-  pub decodes : (f : FieldSet) → Permitted e f → (c : ByteString) (buffer : List ℕ) (at : ℕ) → at + length (chosen c f) ≤ length buffer
-      → decoded e c (formatted e f) buffer at ≡ outcome 0 (length (chosen c f)) (over buffer at (chosen c f))
+  pub carries : (f : FieldSet) → Permitted e f → Carries e (formatted e f) f
 
 -- the short writer gives what the writer gives for the profile's usual numbers, no keyid and no data; and where it writes, these are permitted
 pub record ShortAgrees (e : List Profile) : Type 0 where
@@ -79,7 +88,8 @@ pub record Lengths : Type 0 where
   pub pbkdf2-most : (f : FieldSet) → Permitted editionTwo f → 4 ≤ f .numbers .id → length (formatted editionTwo f) ≤ 171
   pub pbkdf2-least : (f : FieldSet) → Permitted editionTwo f → 4 ≤ f .numbers .id → empty (f .output) ≡ false → 33 ≤ length (formatted editionTwo f)
 
--- document 01's strings have their numbers; and strings that are accepted reach the bounds on lengths
+-- document 01's strings have their numbers; and accepted hash strings reach the bounds on lengths
 pub record Examples : Type 0 where
   pub numbers : map (λ (x : String × ℕ). answer editionTwo (text (x .0))) sixteen ≡ map (λ (x : String × ℕ). x .1) sixteen
-  pub reached : map {B = ℕ × ℕ} (λ (x : String × ℕ). (answer editionTwo (text (x .0)), length (text (x .0)))) extremes ≡ map (λ (x : String × ℕ). (0, x .1)) extremes
+  pub reached : map {B = ℕ × ℕ × ℕ} (λ (x : String × ℕ). (reading editionTwo (text (x .0)) .number, reading editionTwo (text (x .0)) .kind, length (text (x .0)))) extremes
+      ≡ map (λ (x : String × ℕ). (0, 3, x .1)) extremes

@@ -27,7 +27,7 @@ noFields = record { id = 0; version = Absent; m = 0; t = 0; p = 0 }
 abbrev pub refusedReading : ℕ → Reading
 refusedReading n = record { number = n; kind = 0; fields = noFields }
 
--- 1 a parameter string, 2 a salt string, 3 a hash string
+-- 01's kind: 1 a parameter string, 2 a salt string, 3 a hash string
 abbrev pub kindOf : Slot → Slot → ℕ
 kindOf none none = 1
 kindOf none (some o) = 3

@@ -24,7 +24,7 @@ use Rattle.profile.specs.declared.fields.Fields.{Fields}
 use Rattle.profile.specs.declared.fields.ByteString.{ByteString}
 use Rattle.profile.specs.declared.fields.ByteString.the-variants.{Keyid, Data, Salt, Output}
 
--- the number fields, and the four byte strings beside them
+-- 01's fields: the number fields (id, version, m, t, p), and the four byte strings beside them; `ad` is its `data`
 pub record FieldSet : Type 0 where
   pub numbers : Fields
   pub keyid : List ℕ

@@ -20,7 +20,7 @@ pub record Usual : Type 0 where
   pub t : ℕ
   pub p : ℕ
 
--- `ad` is document 01's `data`, a reserved word here. Ids keep their numbers in every edition, so an entry says whether its id is known.
+-- 01's profile, a column of its table. `ad` is its `data`, a reserved word here. Ids keep their numbers in every edition, so an entry says whether its id is known.
 -- `unwritten` is the algorithm version that a string without a version means
 pub record Profile : Type 0 where
   pub known : Bool
@@ -120,7 +120,7 @@ argon2Usual = record { version = Number 19; m = 65536; t = 2; p = 1 }
 abbrev pub pbkdf2Usual : Usual
 pbkdf2Usual = record { version = Absent; m = 0; t = 20000; p = 0 }
 
--- m by itself is at least 1; that it is at least 8p is the row's
+-- m by itself is at least 1; that it is at least 8p is a row of its own, after the three numbers
 abbrev pub argon2 : List ℕ → Profile
 argon2 name =
     record {
@@ -166,3 +166,7 @@ editionTwo =
     ∷ pbkdf2 (text "pbkdf2s2")
     ∷ pbkdf2 (text "pbkdf2s3")
     ∷ []
+
+-- the bytes that every permitted string of edition two fits (`Lengths` in specs/Claims.antt)
+abbrev pub room : ℕ
+room = 265

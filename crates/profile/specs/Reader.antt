@@ -93,7 +93,7 @@ profileRows e p =
     let is = itemsOf (p .params) in
     rowsFor e (idOf e (p .id)) (readVersion (p .version)) (slots names is) (not (empty (strangers names is))) (p .salt) (p .output)
 
--- the reader's number: rows 1 to 7 are the grammar's
+-- the reader's number: rows 1 to 7 are the grammar's. A string is accepted (01) where it is 0
 unfoldable pub answer : List Profile → List ℕ → ℕ
 answer e s = firstOf (grammarRows s ++ profileRows e (pieces s))
 

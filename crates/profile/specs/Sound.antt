@@ -25,7 +25,7 @@ soundNumber (Needed low high) = leb high largest32
 soundNumber (Omitted low high given) = leb high largest32 && within low high given
 soundNumber (Fixed given) = true
 
--- byte strings whose text the grammar takes
+-- byte strings whose text the grammar takes; its limit for an output is the same number
 abbrev pub soundBytes : BytesRule → Bool
 soundBytes (Sized low high) = leb (charsOf (high .0)) longestValue
 soundBytes Barred = true

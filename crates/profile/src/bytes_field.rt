@@ -37,7 +37,7 @@ pub fn misplaced_bytes(rule: BytesRule, span: Span) -> bool
     }
 }
 
-// Of a permitted size, if there.
+// There, and not of a permitted size.
 pub fn bad_size(rule: BytesRule, t: &[u8], span: Span) -> bool
     ensures { λ r. ⌜ r ≡ broken (isSized rule) (slotIn (now (t .entry)) span) ⌝ }
 {
@@ -48,7 +48,7 @@ pub fn bad_size(rule: BytesRule, t: &[u8], span: Span) -> bool
     !is_size(rule, decoded_len(Chars(text.len())))
 }
 
-// Canonical, and of a permitted size, if there.
+// There, and not canonical or not of a permitted size.
 pub fn bad_bytes(rule: BytesRule, t: &[u8], span: Span) -> bool
     ensures { λ r. ⌜ r ≡ broken (isBytes rule) (slotIn (now (t .entry)) span) ⌝ }
 {

@@ -1,6 +1,6 @@
 // The fields of a string. The four byte strings travel beside the number fields.
 
-// A version field: absent, or the number written. Absent is a content of its own.
+// A version field: absent, or the number written. Absent is a case of its own.
 pub enum Version {
     Absent,
     Number(u32),

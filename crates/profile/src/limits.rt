@@ -11,7 +11,7 @@ pub enum NumberRule {
     Fixed { given: u32 },
 }
 
-// A byte string: of a number of bytes, left out where it is empty; or always empty.
+// A byte string: of `low` to `high` bytes, left out where it is empty; or always empty.
 pub enum BytesRule {
     Sized { low: Bytes, high: Bytes },
     Barred,

@@ -36,7 +36,8 @@ ghost use Rattle.profile.specs.ReaderSteps.{slotIn, ValuesAre, chosenTex
 // The algorithm version that an Argon2 string without a version means.
 const ABSENT_MEANS: u32 = 19;
 
-// All that one reading of a string finds: the answer, where its parameters stand, and the values in them.
+// All that one reading of a string finds: the answer, the places of its pieces, and where the values of the names stand in the parameter
+// piece.
 pub struct Whole {
     pub reading: Reading,
     pub places: Places,

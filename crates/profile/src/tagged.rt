@@ -10,8 +10,8 @@ ghost use mathlib.Core.Path.{_≡_};
 ghost use mathlib.Core.List.{_++_};
 ghost use lib.ListN.{length};
 ghost use Rattle.grammar.specs.Decimal.{digits};
+ghost use Rattle.profile.specs.Limits.{room};
 ghost use Rattle.profile.specs.Fields.{writeBytes};
-ghost use Rattle.profile.specs.Claims.{room};
 ghost use Rattle.grammar.specs.PlaceSteps.{Wrote};
 ghost use Rattle.profile.specs.WriterSteps.{tagged, taggedLength};
 

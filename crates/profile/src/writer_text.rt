@@ -12,9 +12,8 @@ use crate::version_field::version_len;
 ghost use Prim.Native.Nat.{_≤_};
 ghost use mathlib.Core.Path.{_≡_};
 ghost use lib.ListN.{length};
-ghost use Rattle.profile.specs.Limits.{profileOf, editionTwo};
+ghost use Rattle.profile.specs.Limits.{profileOf, editionTwo, room};
 ghost use Rattle.profile.specs.Fields.{fieldSet};
-ghost use Rattle.profile.specs.Claims.{room};
 ghost use Rattle.grammar.specs.PlaceSteps.{Wrote};
 ghost use Rattle.profile.specs.WriterSteps.{costsText, costsLength, itemsText, dollared, headText, piecesText, piecesLength};
 

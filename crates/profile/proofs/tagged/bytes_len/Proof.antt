@@ -7,8 +7,8 @@ use denote.Ref.{now}
 use lib.ListN.{length}
 use Rattle.grammar.specs.B64.{encode}
 use Rattle.grammar.proofs.B64Laws.{length-encode}
+use Rattle.profile.specs.Limits.{room}
 use Rattle.profile.specs.Fields.{writeBytes}
-use Rattle.profile.specs.Claims.{room}
 use Rattle.profile.specs.WriterSteps.{taggedLength}
 use Rattle.profile.proofs.WriterLaws.{no-bytes, some-bytes}
 use Rattle.profile.proofs.tagged.bytes_len.Statement.{statement}
