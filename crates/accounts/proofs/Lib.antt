@@ -1,2 +1,5 @@
 pub mod LineLaws
 pub mod RowLaws
+pub mod FeedLaws
+pub mod RunLaws
+pub mod Claims

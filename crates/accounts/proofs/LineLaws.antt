@@ -22,7 +22,7 @@ use Rattle.accounts.specs.declared.line.Answer.{Answer}
 
 -- ---- a byte and the place where it stands first
 
-found : (d : ℕ) (s : List ℕ) → find d s < length s → has d s ≡ true
+pub found : (d : ℕ) (s : List ℕ) → find d s < length s → has d s ≡ true
 found d [] h = absurd (omega arith)
 found d (c ∷ s) h = go (eqb c d) h (found d s)
   where
@@ -82,6 +82,9 @@ module _ (l : List ℕ) where
   pub answer-row : (n : ℕ) → n ≡ lineNumber l → (n ≡ 0 → ⊥) → _≡_ {A = Answer} (record { number = n; kind = 0 }) (lineAnswer l)
   unfolding lineAnswer
   answer-row n e z = rw (← e, ne-eqb n 0 z)
+
+  pub answer-long : 512 < length l → _≡_ {A = Answer} (record { number = 18; kind = 0 }) (lineAnswer l)
+  answer-long h = answer-row 18 (sym (line-long h)) (λ z. absurd (omega arith))
 
   pub answer-string : (tab : ℕ) → tab ≡ find 9 l → lineNumber l ≡ 0 → (r : Reading) → r ≡ reading editionTwo (take (length l - (tab + 1)) (drop (tab + 1) l))
       → _≡_ {A = Answer} (record { number = r .number; kind = r .kind }) (lineAnswer l)

@@ -1,2 +1,5 @@
 pub mod Lines
 pub mod Listing
+pub mod Feeding
+pub mod FeedingSteps
+pub mod Claims

@@ -1,0 +1,18 @@
+-- The claims of specs/Claims.antt, proved.
+-- Assumes nothing.
+use Prim.Native.Nat.{ℕ}
+use mathlib.Core.List.{List, [], _++_}
+use mathlib.Core.Path.{sym, ap, _∙_}
+use Rattle.accounts.specs.Lines.{linesFrom, lines}
+use Rattle.accounts.specs.Listing.{header, rowsFrom, listing}
+use Rattle.accounts.specs.Feeding.{heldOf, leftOf}
+use Rattle.accounts.specs.Claims.{Listings}
+use Rattle.accounts.proofs.RunLaws.{from-plain, held-free, held-none, left-zero, run-left}
+
+pub listings : Listings
+unfolding listing lines
+listings =
+    record {
+      fresh = λ {d} {ps} l c. ap (λ (w : List ℕ). header ++ w) (run-left c l ∙ (λ i. rowsFrom 1 (linesFrom (held-none d i) (left-zero ps i))));
+      any = λ {d} {kept} {n} {from} {ps} l c. run-left c l ∙ ap (rowsFrom n) (sym (from-plain (heldOf d kept) [] (leftOf from ps) (held-free d kept)));
+    }

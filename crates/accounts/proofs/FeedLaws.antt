@@ -1,0 +1,151 @@
+-- The steps of the listing: the bytes that a state stands for, what it keeps, and the row of the last line.
+-- Assumes nothing.
+use Prim.Native.Nat.{ℕ, zero, suc, _+_, _-_, _≤_, _<_, min}
+use mathlib.Core.Bool.{Bool, true, false, cond}
+use mathlib.Core.List.{List, [], _∷_, _++_, append-nil, append-assoc}
+use mathlib.Core.Path.{_≡_, refl, sym, ap, _∙_}
+use native.Mathlib.Nat.{zero-min, min-zero, suc-min-suc}
+use native.Mathlib.Omega.{arith}
+use lib.ListN.{length, take, drop, length-take, length-drop, length-append}
+use lib.Seq.{take-take, length-take-le, take-append-add}
+use Rattle.grammar.specs.Text.{has, find, cut, nextAt}
+use Rattle.grammar.specs.Place.{Outcome, outcome, refused, hasRoom, over, put}
+use Rattle.grammar.proofs.Scanning.{find-le}
+use Rattle.grammar.proofs.Splitting.{cut-before}
+use Rattle.grammar.proofs.Writing.{put-fits, over-back}
+use Rattle.grammar.proofs.Wrote.{wrote-start, wrote-more, wrote-length}
+use Rattle.accounts.specs.Lines.{lastLine, lineAnswer}
+use Rattle.accounts.specs.Listing.{rowText, rowsFrom, nextLine}
+use Rattle.accounts.specs.Feeding.{mostKept, heldOf, fed, rowFed, usedFed, nextFed}
+use Rattle.accounts.specs.FeedingSteps.{Held}
+use Rattle.accounts.specs.declared.line.Answer.{Answer}
+use Rattle.accounts.specs.declared.listing.Listed.{Listed}
+use Rattle.accounts.specs.declared.listing.Listed.the-variants.{Row, UsedUp, NoRoom}
+use Rattle.accounts.proofs.LineLaws.{found, unfound}
+
+pub take-min : (d : List ℕ) (n : ℕ) → take (min n (length d)) d ≡ take n d
+take-min d zero = rw zero-min
+take-min [] (suc n) = rw min-zero
+take-min (a ∷ d) (suc n) = rw suc-min-suc (ap (λ (v : List ℕ). a ∷ v) (take-min d n))
+
+-- ---- the bytes that a state stands for
+
+pub held-by : (d : List ℕ) (kept n e : ℕ) → n ≡ min kept (length d) → e ≡ nextAt 10 (take (n - 0) (drop 0 d)) 0 → Held d kept e
+unfolding heldOf
+held-by d kept n e q r =
+    let t : take (n - 0) (drop 0 d) ≡ take kept d = let z : n - 0 ≡ min kept (length d) = omega arith in ap (λ (k : ℕ). take k d) z ∙ take-min d kept in
+    let f : e ≡ find 10 (take kept d) = r ∙ (let z : nextAt 10 (take (n - 0) (drop 0 d)) 0 ≡ find 10 (take (n - 0) (drop 0 d)) = omega arith in z) ∙ ap (find 10) t in
+    let l : length (take kept d) ≡ min kept (length d) = length-take kept d in
+    let b : e ≤ length (take kept d) = omega (arith, find-le 10 (take kept d)) in
+    record {
+      bytes = sym (cut-before 10 (take kept d) ∙ ap (λ (k : ℕ). take k (take kept d)) (sym f) ∙ take-take e kept d (omega arith));
+      inside = omega arith;
+    }
+
+-- ---- a line of two parts
+
+pub copied : (begun more out d₁ d₂ : List ℕ) → length begun + length more ≤ length out
+    → (n₁ c₁ n₂ c₂ : ℕ) → outcome n₁ c₁ d₁ ≡ put out 0 begun → outcome n₂ c₂ d₂ ≡ put d₁ (length begun) more
+    → take (length begun + length more - 0) (drop 0 d₂) ≡ begun ++ more
+copied begun more out d₁ d₂ h n₁ c₁ n₂ c₂ e₁ e₂ =
+    let l = length-append begun more in
+    let w₁ = wrote-start out d₁ begun n₁ c₁ (omega arith) e₁ in
+    let c : length begun ≡ c₁ = sym (w₁ .count-is) in
+    let w₂ = wrote-more out d₁ d₂ begun more c₁ n₂ c₂ (omega arith) w₁ (e₂ ∙ ap (λ (k : ℕ). put d₁ k more) c) in
+    let z : length begun + length more - 0 ≡ length (begun ++ more) = omega arith in
+    (λ i. take (z i) (w₂ .left i)) ∙ over-back out (begun ++ more) 0 (omega arith)
+
+-- ---- what is kept of more bytes
+
+pub kept-more : (d d₁ more : List ℕ) (held count n c : ℕ) → length d ≡ 513 → held ≤ 513 → count ≡ min (513 - held) (length more)
+    → outcome n c d₁ ≡ put d held (take (count - 0) (drop 0 more))
+    → (held + count ≡ held + length (take (513 - held) more)) × (d₁ ≡ over d held (take (513 - held) more))
+kept-more d d₁ more held count n c l h q e =
+    let t : take (count - 0) (drop 0 more) ≡ take (513 - held) more = let z : count - 0 ≡ min (513 - held) (length more) = omega arith in ap (λ (k : ℕ). take k more) z ∙ take-min more (513 - held) in
+    let k : length (take (513 - held) more) ≡ min (513 - held) (length more) = length-take (513 - held) more in
+    let w = put-fits d held (take (513 - held) more) n c d₁ (omega arith) (e ∙ ap (put d held) t) in
+    (omega arith, w .left-is)
+
+kept-prefix : (d s : List ℕ) (held : ℕ) → length d ≡ 513 → held ≤ length d → take 513 (take held d ++ s) ≡ take held d ++ take (513 - held) s
+kept-prefix d s held l h =
+    let c : length (take held d) ≡ held = length-take-le held d h in
+    let k : 513 ≡ length (take held d) + (513 - held) = omega arith in
+    ap (λ (m : ℕ). take m (take held d ++ s)) k ∙ take-append-add (take held d) s (513 - held)
+
+-- written after the first bytes of a buffer: they and the text, written from its start
+over-prefix : (d t : List ℕ) (held : ℕ) → held ≤ length d → over d held t ≡ over d 0 (take held d ++ t)
+over-prefix d t held h =
+    let c : length (take held d) ≡ held = length-take-le held d h in
+    let z : held + length t ≡ 0 + length (take held d ++ t) = omega (arith, length-append (take held d) t) in
+    ap (λ (m : ℕ). take held d ++ (t ++ drop m d)) z ∙ sym (append-assoc (take held d) t (drop (0 + length (take held d ++ t)) d))
+
+-- ---- the end of the input
+
+last-row : (n : ℕ) (u : List ℕ) → (length u ≡ 0 → ⊥) → rowsFrom n (lastLine u) ≡ rowText n (lineAnswer u)
+last-row n [] z = absurd (z refl)
+last-row n (a ∷ u) z = append-nil (rowText n (lineAnswer (a ∷ u)))
+
+pub end-nothing : (d : List ℕ) (kept count n : ℕ) → Held d kept count → count ≡ 0 → rowsFrom n (lastLine (heldOf d kept)) ≡ []
+end-nothing d kept count n h z = ap (λ (u : List ℕ). rowsFrom n (lastLine u)) (sym (h .bytes) ∙ ap (λ (k : ℕ). take k d) z)
+
+pub end-row : (d : List ℕ) (kept count n : ℕ) → Held d kept count → (count ≡ 0 → ⊥) → (a : Answer) → a ≡ lineAnswer (take (count - 0) (drop 0 d))
+    → rowsFrom n (lastLine (heldOf d kept)) ≡ rowText n a
+end-row d kept count n h z a e =
+    let t : take (count - 0) (drop 0 d) ≡ heldOf d kept = let q : count - 0 ≡ count = omega arith in ap (λ (k : ℕ). take k d) q ∙ h .bytes in
+    let l : length (heldOf d kept) ≡ count = ap length (sym (h .bytes)) ∙ length-take count d ∙ (let q : min count (length d) ≡ count = omega (arith, h .inside) in q) in
+    last-row n (heldOf d kept) (λ (k : length (heldOf d kept) ≡ 0). z (sym l ∙ k)) ∙ ap (rowText n) (sym (e ∙ ap lineAnswer t))
+
+-- ---- a row, by the room
+
+module _ (d buf left t : List ℕ) (n place at number count : ℕ) where
+  pub row-full : (number ≡ 0 → ⊥) → outcome number count left ≡ put buf at t → fed NoRoom d left ≡ rowFed n t place d buf at
+  unfolding put
+  row-full z e = go (hasRoom (length buf) at (length t)) e
+    where
+      go : (b : Bool) → outcome number count left ≡ cond b (outcome 0 (length t) (over buf at t)) (refused 17 buf)
+          → fed NoRoom d left ≡ cond b (fed (Row place (record { 0 = length t }) (nextLine n)) d (over buf at t)) (fed NoRoom d buf)
+      go true e = absurd (z (ap (λ (o : Outcome). o .number) e))
+      go false e = ap (fed NoRoom d) (ap (λ (o : Outcome). o .buffer) e)
+
+  pub row-done : number ≡ 0 → outcome number count left ≡ put buf at t → (next : ℕ) → next ≡ nextLine n
+      → fed (Row place (record { 0 = count }) next) d left ≡ rowFed n t place d buf at
+  unfolding put
+  row-done z e next q = go (hasRoom (length buf) at (length t)) e
+    where
+      go : (b : Bool) → outcome number count left ≡ cond b (outcome 0 (length t) (over buf at t)) (refused 17 buf)
+          → fed (Row place (record { 0 = count }) next) d left ≡ cond b (fed (Row place (record { 0 = length t }) (nextLine n)) d (over buf at t)) (fed NoRoom d buf)
+      go true e =
+          let c : count ≡ length t = ap (λ (o : Outcome). o .count) e in
+          let l : left ≡ over buf at t = ap (λ (o : Outcome). o .buffer) e in
+          λ i. fed (Row place (record { 0 = c i }) (q i)) d (l i)
+      go false e = let k : _≡_ {A = ℕ} 0 17 = sym z ∙ ap (λ (o : Outcome). o .number) e in absurd (omega arith)
+
+-- ---- the next line of a part
+
+module _ (d : List ℕ) (kept held n : ℕ) (part : List ℕ) (from e : ℕ) (buf : List ℕ) where
+  pub next-row : (left : List ℕ) (at : ℕ) (r : Listed) (a : Answer) → Held d kept held → e ≡ nextAt 10 part from → e < length part
+      → a ≡ lineAnswer (take (held - 0) (drop 0 d) ++ take (e - from) (drop from part))
+      → fed r d left ≡ rowFed n (rowText n a) (e + 1) d buf at → fed r d left ≡ nextFed d kept n part from buf at
+  unfolding nextFed
+  next-row left at r a h q l b f =
+      let s = drop from part in
+      let there : has 10 s ≡ true = found 10 s (omega (arith, length-drop from part)) in
+      let line : take (e - from) s ≡ cut 10 s .0 = (let z : e - from ≡ find 10 s = omega arith in ap (λ (k : ℕ). take k s) z) ∙ sym (cut-before 10 s) in
+      let begun : take (held - 0) (drop 0 d) ≡ heldOf d kept = (let z : held - 0 ≡ held = omega arith in ap (λ (k : ℕ). take k d) z) ∙ h .bytes in
+      let answer : a ≡ lineAnswer (heldOf d kept ++ cut 10 s .0) = b ∙ (λ i. lineAnswer (begun i ++ line i)) in
+      let place : e + 1 ≡ suc (from + find 10 s) = omega arith in
+      rw there (f ∙ (λ i. rowFed n (rowText n (answer i)) (place i) d buf at))
+
+  pub next-used : (d₁ : List ℕ) (at more : ℕ) (rest : List ℕ) → length d ≡ 513 → Held d kept held → e ≡ nextAt 10 part from → length part ≤ e → rest ≡ drop from part
+      → more ≡ held + length (take (513 - held) rest) → d₁ ≡ over d held (take (513 - held) rest)
+      → fed (UsedUp more) d₁ buf ≡ nextFed d kept n part from buf at
+  unfolding nextFed
+  next-used d₁ at more rest l h q g r m o =
+      let s = drop from part in
+      let none : has 10 s ≡ false = unfound 10 s (omega (arith, length-drop from part)) in
+      let k : take mostKept (heldOf d kept ++ s) ≡ take held d ++ take (513 - held) rest = ap (λ (u : List ℕ). take mostKept (u ++ s)) (sym (h .bytes)) ∙ kept-prefix d s held l (h .inside) ∙ ap (λ (u : List ℕ). take held d ++ take (513 - held) u) (sym r) in
+      let t = take (513 - held) rest in
+      let c : length (take held d) ≡ held = length-take-le held d (h .inside) in
+      let count : more ≡ length (take mostKept (heldOf d kept ++ s)) = m ∙ (let z : held + length t ≡ length (take held d ++ t) = omega (arith, length-append (take held d) t) in z) ∙ ap length (sym k) in
+      let array : d₁ ≡ over d 0 (take mostKept (heldOf d kept ++ s)) = o ∙ over-prefix d t held (h .inside) ∙ ap (over d 0) (sym k) in
+      rw none (λ i. fed (UsedUp (count i)) (array i) buf)

@@ -1,0 +1,55 @@
+-- `accounts::listing::judge_copied` meets its contract: the two parts stand one after the other. Assumes nothing.
+use borrow.Author.Needs.{needs}
+use mathlib.Core.Path.{ap, _∙_}
+use denote.Ref.{now}
+use Rattle.accounts.specs.Lines.{lineAnswer}
+use Rattle.accounts.proofs.FeedLaws.{copied}
+use Rattle.accounts.proofs.listing.judge_copied.Statement.{statement}
+use Rattle.accounts.proofs.listing.judge_copied.Tie as tie
+
+write-text-requires : tie.Need-write-text-requires
+write-text-requires c κs = search needs
+
+write-text-requires-2 : tie.Need-write-text-requires-2
+write-text-requires-2 c κs = search needs
+
+add-judge : tie.Need-add-judge
+add-judge c = search needs
+
+sub-judge : tie.Need-sub-judge
+sub-judge c = search needs
+
+part-judge-start : tie.Need-part-judge-start
+part-judge-start c = search needs
+
+part-judge-end : tie.Need-part-judge-end
+part-judge-end c = search needs
+
+judge-requires : tie.Need-judge-requires
+judge-requires c κs = search needs
+
+same-length : tie.Need-same-length
+same-length c = search needs
+
+returns : tie.Need-returns
+returns c =
+    let y = c .before .before .before .before .before in
+    let x = y .before .before .before .before in
+    let a = x .before .before .before .before .before .args in
+    c .judge .ensures
+    ∙ ap lineAnswer (copied (now (a .begun)) (now (a .more)) (now (a .out)) (x .write-text .last .1 .0) (y .write-text2 .last .1 .0) (x .before .before .before .before .before .pre)
+    (x .write-text .result .number) (x .write-text .result .count .0) (y .write-text2 .result .number) (y .write-text2 .result .count .0) (x .write-text .ensures) (y .write-text2 .ensures))
+
+pub judge-copied-spec : {M : Type 1} → statement M
+judge-copied-spec =
+    tie.close
+    (tie.spec
+    write-text-requires
+    write-text-requires-2
+    add-judge
+    sub-judge
+    part-judge-start
+    part-judge-end
+    judge-requires
+    same-length
+    returns)

@@ -1,0 +1,17 @@
+-- What is proved of the listing: proofs/Claims.antt has a value of each record.
+-- Assumes nothing.
+use Prim.Native.Nat.{ℕ}
+use mathlib.Core.List.{List, _++_}
+use mathlib.Core.Path.{_≡_}
+use lib.ListN.{length}
+use Rattle.accounts.specs.Lines.{lines}
+use Rattle.accounts.specs.Listing.{header, rowsFrom, listing}
+use Rattle.accounts.specs.Feeding.{mostKept, heldOf, Calls, concat, leftOf}
+
+-- however the input is cut: every run of calls
+pub record Listings : Type 0 where
+  -- from a fresh state: the header and what the calls write are the listing of the joined bytes, every line of it
+  pub fresh : {d : List ℕ} {ps : List (List ℕ)} {written : List ℕ} → length d ≡ mostKept → Calls d 0 1 0 ps written → header ++ written ≡ listing (concat ps)
+  -- from any state: the rows of the lines of the bytes that it stands for and of those that are left
+  pub any : {d : List ℕ} {kept n from : ℕ} {ps : List (List ℕ)} {written : List ℕ} → length d ≡ mostKept → Calls d kept n from ps written
+      → written ≡ rowsFrom n (lines (heldOf d kept ++ leftOf from ps))

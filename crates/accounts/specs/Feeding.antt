@@ -1,0 +1,87 @@
+-- The listing of input that comes in parts. A state is an array of 513 bytes with how many of them are kept, and the number of the line.
+-- Assumes nothing.
+use Prim.Native.Nat.{ℕ, suc, _+_}
+use mathlib.Core.Bool.{cond}
+use mathlib.Core.List.{List, [], _∷_, _++_}
+use mathlib.Core.Path.{_≡_}
+use lib.ListN.{length, take, drop}
+use Rattle.grammar.specs.Text.{has, find, cut}
+use Rattle.grammar.specs.Place.{Outcome, outcome, hasRoom, over, put}
+use Rattle.accounts.specs.Lines.{lastLine, lineAnswer}
+use Rattle.accounts.specs.Listing.{rowText, rowsFrom, nextLine}
+use Rattle.accounts.specs.declared.listing.Listed.{Listed}
+use Rattle.accounts.specs.declared.listing.Listed.the-variants.{Row, UsedUp, NoRoom}
+
+-- one byte more than the longest line
+abbrev pub mostKept : ℕ
+mostKept = 513
+
+-- the bytes of the unfinished line that a state stands for: those kept, up to a line feed. A state that the calls made keeps none,
+-- so a state made by hand stands for some bytes too
+unfoldable pub heldOf : List ℕ → ℕ → List ℕ
+heldOf d kept = cut 10 (take kept d) .0
+
+-- ---- what a call gives
+
+-- with the array and the lent buffer as it leaves them
+pub record Fed : Type 0 where
+  pub listed : Listed
+  pub array : List ℕ
+  pub buffer : List ℕ
+
+abbrev pub fed : Listed → List ℕ → List ℕ → Fed
+fed listed array buffer = record { listed = listed; array = array; buffer = buffer }
+
+-- document 01's number for each case
+abbrev pub listedNumber : Listed → ℕ
+listedNumber (Row place count line) = 0
+listedNumber (UsedUp kept) = 0
+listedNumber NoRoom = 17
+
+-- a row at a place of the buffer; the line ends before `place`
+abbrev pub rowFed : ℕ → List ℕ → ℕ → List ℕ → List ℕ → ℕ → Fed
+rowFed n t place d buffer at =
+    cond (hasRoom (length buffer) at (length t)) (fed (Row place (record { 0 = length t }) (nextLine n)) d (over buffer at t)) (fed NoRoom d buffer)
+
+-- the part is used up: the first bytes of the unfinished line are kept
+abbrev pub usedFed : List ℕ → List ℕ → List ℕ → Fed
+usedFed u d buffer = fed (UsedUp (length (take mostKept u))) (over d 0 (take mostKept u)) buffer
+
+-- the next line of a part from a place on: its row, or that the part is used up
+unfoldable pub nextFed : List ℕ → ℕ → ℕ → List ℕ → ℕ → List ℕ → ℕ → Fed
+nextFed d kept n part from buffer at =
+    let s = drop from part in
+    cond (has 10 s)
+    (rowFed n (rowText n (lineAnswer (heldOf d kept ++ cut 10 s .0))) (suc (from + find 10 s)) d buffer at)
+    (usedFed (heldOf d kept ++ s) d buffer)
+
+-- the row of the last line at the end of the input, where it has any byte
+unfoldable pub endPut : List ℕ → ℕ → ℕ → List ℕ → ℕ → Outcome
+endPut d kept n buffer at = put buffer at (rowsFrom n (lastLine (heldOf d kept)))
+
+-- ---- every run of calls
+
+-- what the calls write, from a state and the parts that are left (the first from a place on); a buffer is lent anew for each call, and
+-- a call without room may be made again
+pub data Calls : List ℕ → ℕ → ℕ → ℕ → List (List ℕ) → List ℕ → Type 0 where
+  row : {d : List ℕ} {kept n from : ℕ} {p : List ℕ} {ps : List (List ℕ)} (buffer : List ℕ) (at : ℕ) {place count line : ℕ} {array left rest : List ℕ}
+      → nextFed d kept n p from buffer at ≡ fed (Row place (record { 0 = count }) line) array left
+      → Calls array 0 line place (p ∷ ps) rest → Calls d kept n from (p ∷ ps) (take count (drop at left) ++ rest)
+  full : {d : List ℕ} {kept n from : ℕ} {p : List ℕ} {ps : List (List ℕ)} (buffer : List ℕ) (at : ℕ) {array left rest : List ℕ}
+      → nextFed d kept n p from buffer at ≡ fed NoRoom array left
+      → Calls array kept n from (p ∷ ps) rest → Calls d kept n from (p ∷ ps) rest
+  used : {d : List ℕ} {kept n from : ℕ} {p : List ℕ} {ps : List (List ℕ)} (buffer : List ℕ) (at : ℕ) {more : ℕ} {array left rest : List ℕ}
+      → nextFed d kept n p from buffer at ≡ fed (UsedUp more) array left
+      → Calls array more n 0 ps rest → Calls d kept n from (p ∷ ps) rest
+  end : {d : List ℕ} {kept n : ℕ} (buffer : List ℕ) (at : ℕ) {count : ℕ} {left : List ℕ}
+      → endPut d kept n buffer at ≡ outcome 0 count left → Calls d kept n 0 [] (take count (drop at left))
+
+-- the parts joined
+abbrev pub concat : List (List ℕ) → List ℕ
+concat [] = []
+concat (p ∷ ps) = p ++ concat ps
+
+-- what is left of the input: the first part from a place on
+abbrev pub leftOf : ℕ → List (List ℕ) → List ℕ
+leftOf from [] = []
+leftOf from (p ∷ ps) = drop from p ++ concat ps
