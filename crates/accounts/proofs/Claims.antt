@@ -7,7 +7,7 @@ use Rattle.accounts.specs.Lines.{linesFrom, lines}
 use Rattle.accounts.specs.Listing.{header, rowsFrom, listing}
 use Rattle.accounts.specs.Feeding.{heldOf, leftOf}
 use Rattle.accounts.specs.Claims.{Listings}
-use Rattle.accounts.proofs.RunLaws.{from-plain, held-free, held-none, left-zero, run-left}
+use Rattle.accounts.proofs.RunLaws.{from-plain, held-free, held-none, left-zero, run-left, runs}
 
 pub listings : Listings
 unfolding listing lines
@@ -15,4 +15,5 @@ listings =
     record {
       fresh = λ {d} {ps} l c. ap (λ (w : List ℕ). header ++ w) (run-left c l ∙ (λ i. rowsFrom 1 (linesFrom (held-none d i) (left-zero ps i))));
       any = λ {d} {kept} {n} {from} {ps} l c. run-left c l ∙ ap (rowsFrom n) (sym (from-plain (heldOf d kept) [] (leftOf from ps) (held-free d kept)));
+      ends = λ d kept n ps. runs ps d kept n;
     }

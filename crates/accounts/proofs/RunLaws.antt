@@ -7,9 +7,9 @@ use mathlib.Core.List.{List, [], _∷_, _++_, append-nil, append-assoc}
 use mathlib.Core.Path.{_≡_, refl, sym, ap, _∙_}
 use native.Mathlib.Omega.{arith}
 use lib.Dec.{eqb, leb}
-use lib.ListN.{length, take, drop, length-take}
+use lib.ListN.{length, take, drop, length-take, length-drop}
 use lib.Seq.{append-snoc, take-all, take-take, drop-drop}
-use borrow.Author.Tests.{leb-true, leb-false}
+use borrow.Author.Tests.{leb-true, leb-false, le-leb}
 use Rattle.grammar.specs.Text.{has, find, cut, cutByte}
 use Rattle.grammar.specs.Place.{Outcome, outcome, hasRoom, over, put}
 use Rattle.grammar.proofs.Tests.{neither, or-false}
@@ -23,7 +23,7 @@ use Rattle.accounts.specs.Feeding.{heldOf, Fed, fed, rowFed, usedFed, ne
 use Rattle.accounts.specs.declared.line.Answer.{Answer}
 use Rattle.accounts.specs.declared.listing.Listed.{Listed}
 use Rattle.accounts.specs.declared.listing.Listed.the-variants.{Row, UsedUp, NoRoom}
-use Rattle.accounts.proofs.LineLaws.{answer-long}
+use Rattle.accounts.proofs.LineLaws.{there, answer-long}
 
 -- ---- lines
 
@@ -253,3 +253,53 @@ run-left (used {d} {kept} {n} {from} {p} {ps} buffer at {more} {array} {left} {r
     ∙ from-cut n (heldOf d kept ++ s) (concat ps)
     ∙ ap (rowsFrom n) (sym (from-plain s (heldOf d kept) (concat ps) (q .none)))
 run-left (end {d} {kept} {n} buffer at {count} {left} e) h = end-says d kept n buffer at count left e
+
+-- ---- there is a run from every state over all parts: the calls come to an end
+
+abbrev Runs : List ℕ → ℕ → ℕ → ℕ → List (List ℕ) → Type 0
+Runs d kept n from ps = (written : List ℕ) × Calls d kept n from ps written
+
+module _ (d : List ℕ) (kept n : ℕ) (p : List ℕ) (from : ℕ) where
+  abbrev rest-of : List ℕ
+  rest-of = drop from p
+
+  -- a buffer that just holds the row
+  abbrev row-of : List ℕ
+  row-of = rowText n (lineAnswer (heldOf d kept ++ cut 10 rest-of .0))
+
+  next-row : has 10 rest-of ≡ true
+      → nextFed d kept n p from row-of 0 ≡ fed (Row (suc (from + find 10 rest-of)) (record { 0 = length row-of }) (nextLine n)) d (over row-of 0 row-of)
+  unfolding nextFed
+  next-row h = rw (h, le-leb (0 + length row-of) (length row-of) (omega arith))
+
+  next-used : has 10 rest-of ≡ false → nextFed d kept n p from [] 0 ≡ usedFed (heldOf d kept ++ rest-of) d []
+  unfolding nextFed
+  next-used h = rw h
+
+  run-step : (ps : List (List ℕ)) → (from + find 10 rest-of < length p → Runs d 0 (nextLine n) (suc (from + find 10 rest-of)) (p ∷ ps)) → ((d₁ : List ℕ) (kept₁ : ℕ) → Runs d₁ kept₁ n 0 ps)
+      → Runs d kept n from (p ∷ ps)
+  run-step ps f g = go (has 10 rest-of) refl
+    where
+      go : (q : Bool) → has 10 rest-of ≡ q → Runs d kept n from (p ∷ ps)
+      go true h =
+          let r = f (omega (arith, there 10 rest-of h, length-drop from p)) in
+          (take (length row-of) (drop 0 (over row-of 0 row-of)) ++ r .0, row row-of 0 (next-row h) (r .1))
+      go false h =
+          let r = g (over d 0 (take 513 (heldOf d kept ++ rest-of))) (length (take 513 (heldOf d kept ++ rest-of))) in
+          (r .0, used [] 0 (next-used h) (r .1))
+
+run-part : (k : ℕ) (d : List ℕ) (kept n from : ℕ) (p : List ℕ) (ps : List (List ℕ)) → length p < from + k → ((d₁ : List ℕ) (kept₁ n₁ : ℕ) → Runs d₁ kept₁ n₁ 0 ps)
+    → Runs d kept n from (p ∷ ps)
+run-part zero d kept n from p ps h g = run-step d kept n p from ps (λ l. absurd (omega arith)) (λ d₁ kept₁. g d₁ kept₁ n)
+run-part (suc k) d kept n from p ps h g =
+    run-step d kept n p from ps (λ l. run-part k d 0 (nextLine n) (suc (from + find 10 (drop from p))) p ps (omega arith) g) (λ d₁ kept₁. g d₁ kept₁ n)
+
+end-is : (d : List ℕ) (kept n : ℕ)
+    → let t = rowsFrom n (lastLine (heldOf d kept)) in
+    endPut d kept n t 0 ≡ outcome 0 (length t) (over t 0 t)
+unfolding endPut put
+end-is d kept n = let t = rowsFrom n (lastLine (heldOf d kept)) in rw (le-leb (0 + length t) (length t) (omega arith))
+
+pub runs : (ps : List (List ℕ)) (d : List ℕ) (kept n : ℕ) → Runs d kept n 0 ps
+runs [] d kept n = let t = rowsFrom n (lastLine (heldOf d kept)) in (take (length t) (drop 0 (over t 0 t)), end t 0 (end-is d kept n))
+runs (p ∷ ps) d kept n = run-part (suc (length p)) d kept n 0 p ps (omega arith) (λ d₁ kept₁ n₁. runs ps d₁ kept₁ n₁)

@@ -15,3 +15,5 @@ pub record Listings : Type 0 where
   -- from any state: the rows of the lines of the bytes that it stands for and of those that are left
   pub any : {d : List ℕ} {kept n from : ℕ} {ps : List (List ℕ)} {written : List ℕ} → length d ≡ mostKept → Calls d kept n from ps written
       → written ≡ rowsFrom n (lines (heldOf d kept ++ leftOf from ps))
+  -- and there is such a run: the calls come to an end
+  pub ends : (d : List ℕ) (kept n : ℕ) (ps : List (List ℕ)) → (written : List ℕ) × Calls d kept n 0 ps written
