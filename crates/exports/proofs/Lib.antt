@@ -1,0 +1,3 @@
+pub mod CodeLaws
+pub mod SizeLaws
+pub mod RecordLaws
