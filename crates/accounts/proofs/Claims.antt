@@ -3,10 +3,13 @@
 use Prim.Native.Nat.{ℕ}
 use mathlib.Core.List.{List, [], _++_}
 use mathlib.Core.Path.{sym, ap, _∙_}
+use native.Mathlib.Omega.{arith}
+use Rattle.grammar.proofs.DecimalLaws.{length-digits}
 use Rattle.accounts.specs.Lines.{linesFrom, lines}
 use Rattle.accounts.specs.Listing.{header, rowsFrom, listing}
 use Rattle.accounts.specs.Feeding.{heldOf, leftOf}
-use Rattle.accounts.specs.Claims.{Listings}
+use Rattle.accounts.specs.Claims.{Listings, Rows}
+use Rattle.accounts.proofs.RowLaws.{row-length, kind-length}
 use Rattle.accounts.proofs.RunLaws.{from-plain, held-free, held-none, left-zero, run-left, runs}
 
 pub listings : Listings
@@ -16,4 +19,11 @@ listings =
       fresh = λ {d} {ps} l c. ap (λ (w : List ℕ). header ++ w) (run-left c l ∙ (λ i. rowsFrom 1 (linesFrom (held-none d i) (left-zero ps i))));
       any = λ {d} {kept} {n} {from} {ps} l c. run-left c l ∙ ap (rowsFrom n) (sym (from-plain (heldOf d kept) [] (leftOf from ps) (held-free d kept)));
       ends = λ d kept n ps. runs ps d kept n;
+    }
+
+pub rows : Rows
+rows =
+    record {
+      most = λ n a l k.
+          omega (arith, row-length n a, kind-length (a .kind), length-digits 19 n (omega arith), length-digits 2 (a .number) (omega arith));
     }

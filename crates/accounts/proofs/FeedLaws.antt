@@ -6,6 +6,7 @@ use mathlib.Core.List.{List, [], _∷_, _++_, append-nil, append-assoc}
 use mathlib.Core.Path.{_≡_, refl, sym, ap, _∙_}
 use native.Mathlib.Nat.{zero-min, min-zero, suc-min-suc}
 use native.Mathlib.Omega.{arith}
+use borrow.Author.Tests.{le-leb, lt-leb}
 use lib.ListN.{length, take, drop, length-take, length-drop, length-append}
 use lib.Seq.{take-take, length-take-le, take-append-add}
 use Rattle.grammar.specs.Text.{has, find, cut, nextAt}
@@ -136,11 +137,11 @@ module _ (d : List ℕ) (kept held n : ℕ) (part : List ℕ) (from e : ℕ) (bu
       let place : e + 1 ≡ suc (from + find 10 s) = omega arith in
       rw there (f ∙ (λ i. rowFed n (rowText n (answer i)) (place i) d buf at))
 
-  pub next-used : (d₁ : List ℕ) (at more : ℕ) (rest : List ℕ) → length d ≡ 513 → Held d kept held → e ≡ nextAt 10 part from → length part ≤ e → rest ≡ drop from part
+  pub next-used : (d₁ : List ℕ) (at more : ℕ) (rest : List ℕ) → at ≤ length buf → length d ≡ 513 → Held d kept held → e ≡ nextAt 10 part from → length part ≤ e → rest ≡ drop from part
       → more ≡ held + length (take (513 - held) rest) → d₁ ≡ over d held (take (513 - held) rest)
       → fed (UsedUp more) d₁ buf ≡ nextFed d kept n part from buf at
   unfolding nextFed
-  next-used d₁ at more rest l h q g r m o =
+  next-used d₁ at more rest inside l h q g r m o =
       let s = drop from part in
       let none : has 10 s ≡ false = unfound 10 s (omega (arith, length-drop from part)) in
       let k : take mostKept (heldOf d kept ++ s) ≡ take held d ++ take (513 - held) rest = ap (λ (u : List ℕ). take mostKept (u ++ s)) (sym (h .bytes)) ∙ kept-prefix d s held l (h .inside) ∙ ap (λ (u : List ℕ). take held d ++ take (513 - held) u) (sym r) in
@@ -148,4 +149,9 @@ module _ (d : List ℕ) (kept held n : ℕ) (part : List ℕ) (from e : ℕ) (bu
       let c : length (take held d) ≡ held = length-take-le held d (h .inside) in
       let count : more ≡ length (take mostKept (heldOf d kept ++ s)) = m ∙ (let z : held + length t ≡ length (take held d ++ t) = omega (arith, length-append (take held d) t) in z) ∙ ap length (sym k) in
       let array : d₁ ≡ over d 0 (take mostKept (heldOf d kept ++ s)) = o ∙ over-prefix d t held (h .inside) ∙ ap (over d 0) (sym k) in
-      rw none (λ i. fed (UsedUp (count i)) (array i) buf)
+      rw (none, le-leb (at + 0) (length buf) (omega arith)) (λ i. fed (UsedUp (count i)) (array i) buf)
+
+  pub next-past : (at : ℕ) → e ≡ nextAt 10 part from → length part ≤ e → length buf < at → fed NoRoom d buf ≡ nextFed d kept n part from buf at
+  unfolding nextFed
+  next-past at q g outside =
+      rw (unfound 10 (drop from part) (omega (arith, length-drop from part)), lt-leb (at + 0) (length buf) (omega arith))

@@ -17,7 +17,7 @@ use Rattle.grammar.proofs.Writing.{tail-part}
 use Rattle.profile.specs.Limits.{editionTwo}
 use Rattle.profile.specs.Entries.{reading}
 use Rattle.profile.specs.declared.fields.Reading.{Reading}
-use Rattle.accounts.specs.Lines.{nameOf, stringOf, lineRows, lineNumber, stringAnswer, lineAnswer}
+use Rattle.accounts.specs.Lines.{nameOf, stringOf, lineRows, lineRefusal, stringAnswer, lineAnswer}
 use Rattle.accounts.specs.declared.line.Answer.{Answer}
 
 -- ---- a byte and the place where it stands first
@@ -49,12 +49,12 @@ there d (c ∷ s) h = go (eqb c d) h (there d s)
 -- ---- rows 18 and 19
 
 module _ (l : List ℕ) where
-  pub line-long : 512 < length l → lineNumber l ≡ 18
-  unfolding lineNumber
+  pub line-long : 512 < length l → lineRefusal l ≡ 18
+  unfolding lineRefusal
   line-long h = rw (lt-ltb 512 (length l) h)
 
-  pub line-untabbed : length l ≤ 512 → length l ≤ find 9 l → lineNumber l ≡ 19
-  unfolding lineNumber
+  pub line-untabbed : length l ≤ 512 → length l ≤ find 9 l → lineRefusal l ≡ 19
+  unfolding lineRefusal
   line-untabbed h n = rw (le-ltb 512 (length l) h, unfound 9 l n)
 
   module _ (tab : ℕ) (e : tab ≡ find 9 l) where
@@ -62,31 +62,31 @@ module _ (l : List ℕ) where
     name-part : take (tab - 0) (drop 0 l) ≡ nameOf l
     name-part = let q : tab - 0 ≡ find 9 l = omega arith in ap (λ (n : ℕ). take n l) q ∙ sym (cut-before 9 l)
 
-    pub line-named : length l ≤ 512 → tab < length l → isName (take (tab - 0) (drop 0 l)) ≡ true → lineNumber l ≡ 0
-    unfolding lineNumber
+    pub line-named : length l ≤ 512 → tab < length l → isName (take (tab - 0) (drop 0 l)) ≡ true → lineRefusal l ≡ 0
+    unfolding lineRefusal
     line-named h t n = rw (le-ltb 512 (length l) h, found 9 l (omega arith), ← name-part, n)
 
-    pub line-unnamed : length l ≤ 512 → tab < length l → isName (take (tab - 0) (drop 0 l)) ≡ false → lineNumber l ≡ 19
-    unfolding lineNumber
+    pub line-unnamed : length l ≤ 512 → tab < length l → isName (take (tab - 0) (drop 0 l)) ≡ false → lineRefusal l ≡ 19
+    unfolding lineRefusal
     line-unnamed h t n = rw (le-ltb 512 (length l) h, found 9 l (omega arith), ← name-part, n)
 
   -- neither row applies
-  pub tab-there : lineNumber l ≡ 0 → find 9 l < length l
-  unfolding lineNumber
+  pub tab-there : lineRefusal l ≡ 0 → find 9 l < length l
+  unfolding lineRefusal
   tab-there z =
       let (_, (r19, _)) = clear (lineRows l) refl z in
       there 9 l (both (has 9 l) (isName (nameOf l)) (is-true (has 9 l && isName (nameOf l)) r19) .0)
 
   -- ---- the answer
 
-  pub answer-row : (n : ℕ) → n ≡ lineNumber l → (n ≡ 0 → ⊥) → _≡_ {A = Answer} (record { number = n; kind = 0 }) (lineAnswer l)
+  pub answer-row : (n : ℕ) → n ≡ lineRefusal l → (n ≡ 0 → ⊥) → _≡_ {A = Answer} (record { number = n; kind = 0 }) (lineAnswer l)
   unfolding lineAnswer
   answer-row n e z = rw (← e, ne-eqb n 0 z)
 
   pub answer-long : 512 < length l → _≡_ {A = Answer} (record { number = 18; kind = 0 }) (lineAnswer l)
   answer-long h = answer-row 18 (sym (line-long h)) (λ z. absurd (omega arith))
 
-  pub answer-string : (tab : ℕ) → tab ≡ find 9 l → lineNumber l ≡ 0 → (r : Reading) → r ≡ reading editionTwo (take (length l - (tab + 1)) (drop (tab + 1) l))
+  pub answer-string : (tab : ℕ) → tab ≡ find 9 l → lineRefusal l ≡ 0 → (r : Reading) → r ≡ reading editionTwo (take (length l - (tab + 1)) (drop (tab + 1) l))
       → _≡_ {A = Answer} (record { number = r .number; kind = r .kind }) (lineAnswer l)
   unfolding lineAnswer
   answer-string tab e z r q =

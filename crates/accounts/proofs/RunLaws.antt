@@ -158,13 +158,13 @@ module _ (d : List ℕ) (kept n : ℕ) (p : List ℕ) (from : ℕ) (buffer : Lis
 
   row-says : (place count line : ℕ) → nextFed d kept n p from buffer at ≡ fed (Row place (record { 0 = count }) line) array left → RowSays place count line
   unfolding nextFed place-of count-of line-of case-of
-  row-says place count line e = go (has 10 rest) refl (hasRoom (length buffer) at (length text)) refl e
+  row-says place count line e = go (has 10 rest) refl (hasRoom (length buffer) at (length text)) refl (hasRoom (length buffer) at 0) e
     where
-      go : (q : Bool) → has 10 rest ≡ q → (r : Bool) → hasRoom (length buffer) at (length text) ≡ r
-          → cond q (cond r (fed (Row (suc (from + find 10 rest)) (record { 0 = length text }) (nextLine n)) d (over buffer at text)) (fed NoRoom d buffer)) (usedFed (heldOf d kept ++ rest) d buffer)
+      go : (q : Bool) → has 10 rest ≡ q → (r : Bool) → hasRoom (length buffer) at (length text) ≡ r → (k : Bool)
+          → cond q (cond r (fed (Row (suc (from + find 10 rest)) (record { 0 = length text }) (nextLine n)) d (over buffer at text)) (fed NoRoom d buffer)) (cond k (fed (UsedUp (length (take 513 (heldOf d kept ++ rest)))) (over d 0 (take 513 (heldOf d kept ++ rest))) buffer) (fed NoRoom d buffer))
           ≡ fed (Row place (record { 0 = count }) line) array left
           → RowSays place count line
-      go true h true t e =
+      go true h true t k e =
           let c : length text ≡ count = ap (λ (x : Fed). count-of (x .listed)) e in
           let l : over buffer at text ≡ left = ap (λ (x : Fed). x .buffer) e in
           record {
@@ -174,20 +174,22 @@ module _ (d : List ℕ) (kept n : ℕ) (p : List ℕ) (from : ℕ) (buffer : Lis
             place-is = sym (ap (λ (x : Fed). place-of (x .listed)) e);
             line-is = sym (ap (λ (x : Fed). line-of (x .listed)) e);
           }
-      go true h false t e = let z : _≡_ {A = ℕ} 2 0 = ap (λ (x : Fed). case-of (x .listed)) e in absurd (omega arith)
-      go false h r t e = let z : _≡_ {A = ℕ} 1 0 = ap (λ (x : Fed). case-of (x .listed)) e in absurd (omega arith)
+      go true h false t k e = let z : _≡_ {A = ℕ} 2 0 = ap (λ (x : Fed). case-of (x .listed)) e in absurd (omega arith)
+      go false h r t true e = let z : _≡_ {A = ℕ} 1 0 = ap (λ (x : Fed). case-of (x .listed)) e in absurd (omega arith)
+      go false h r t false e = let z : _≡_ {A = ℕ} 2 0 = ap (λ (x : Fed). case-of (x .listed)) e in absurd (omega arith)
 
   full-says : nextFed d kept n p from buffer at ≡ fed NoRoom array left → array ≡ d
   unfolding nextFed case-of
-  full-says e = go (has 10 rest) (hasRoom (length buffer) at (length text)) e
+  full-says e = go (has 10 rest) (hasRoom (length buffer) at (length text)) (hasRoom (length buffer) at 0) e
     where
-      go : (q r : Bool)
-          → cond q (cond r (fed (Row (suc (from + find 10 rest)) (record { 0 = length text }) (nextLine n)) d (over buffer at text)) (fed NoRoom d buffer)) (usedFed (heldOf d kept ++ rest) d buffer)
+      go : (q r k : Bool)
+          → cond q (cond r (fed (Row (suc (from + find 10 rest)) (record { 0 = length text }) (nextLine n)) d (over buffer at text)) (fed NoRoom d buffer)) (cond k (fed (UsedUp (length (take 513 (heldOf d kept ++ rest)))) (over d 0 (take 513 (heldOf d kept ++ rest))) buffer) (fed NoRoom d buffer))
           ≡ fed NoRoom array left
           → array ≡ d
-      go true true e = let z : _≡_ {A = ℕ} 0 2 = ap (λ (x : Fed). case-of (x .listed)) e in absurd (omega arith)
-      go true false e = sym (ap (λ (x : Fed). x .array) e)
-      go false r e = let z : _≡_ {A = ℕ} 1 2 = ap (λ (x : Fed). case-of (x .listed)) e in absurd (omega arith)
+      go true true k e = let z : _≡_ {A = ℕ} 0 2 = ap (λ (x : Fed). case-of (x .listed)) e in absurd (omega arith)
+      go true false k e = sym (ap (λ (x : Fed). x .array) e)
+      go false r true e = let z : _≡_ {A = ℕ} 1 2 = ap (λ (x : Fed). case-of (x .listed)) e in absurd (omega arith)
+      go false r false e = sym (ap (λ (x : Fed). x .array) e)
 
   record UsedSays (more : ℕ) : Type 0 where
     none : has 10 rest ≡ false
@@ -196,15 +198,16 @@ module _ (d : List ℕ) (kept n : ℕ) (p : List ℕ) (from : ℕ) (buffer : Lis
 
   used-says : (more : ℕ) → nextFed d kept n p from buffer at ≡ fed (UsedUp more) array left → UsedSays more
   unfolding nextFed place-of case-of
-  used-says more e = go (has 10 rest) refl (hasRoom (length buffer) at (length text)) e
+  used-says more e = go (has 10 rest) refl (hasRoom (length buffer) at (length text)) (hasRoom (length buffer) at 0) e
     where
-      go : (q : Bool) → has 10 rest ≡ q → (r : Bool)
-          → cond q (cond r (fed (Row (suc (from + find 10 rest)) (record { 0 = length text }) (nextLine n)) d (over buffer at text)) (fed NoRoom d buffer)) (usedFed (heldOf d kept ++ rest) d buffer)
+      go : (q : Bool) → has 10 rest ≡ q → (r k : Bool)
+          → cond q (cond r (fed (Row (suc (from + find 10 rest)) (record { 0 = length text }) (nextLine n)) d (over buffer at text)) (fed NoRoom d buffer)) (cond k (fed (UsedUp (length (take 513 (heldOf d kept ++ rest)))) (over d 0 (take 513 (heldOf d kept ++ rest))) buffer) (fed NoRoom d buffer))
           ≡ fed (UsedUp more) array left
           → UsedSays more
-      go true h true e = let z : _≡_ {A = ℕ} 0 1 = ap (λ (x : Fed). case-of (x .listed)) e in absurd (omega arith)
-      go true h false e = let z : _≡_ {A = ℕ} 2 1 = ap (λ (x : Fed). case-of (x .listed)) e in absurd (omega arith)
-      go false h r e = record { none = h; more-is = sym (ap (λ (x : Fed). place-of (x .listed)) e); array-is = sym (ap (λ (x : Fed). x .array) e) }
+      go true h true k e = let z : _≡_ {A = ℕ} 0 1 = ap (λ (x : Fed). case-of (x .listed)) e in absurd (omega arith)
+      go true h false k e = let z : _≡_ {A = ℕ} 2 1 = ap (λ (x : Fed). case-of (x .listed)) e in absurd (omega arith)
+      go false h r false e = let z : _≡_ {A = ℕ} 2 1 = ap (λ (x : Fed). case-of (x .listed)) e in absurd (omega arith)
+      go false h r true e = record { none = h; more-is = sym (ap (λ (x : Fed). place-of (x .listed)) e); array-is = sym (ap (λ (x : Fed). x .array) e) }
 
 -- ---- every run
 
@@ -272,7 +275,8 @@ module _ (d : List ℕ) (kept n : ℕ) (p : List ℕ) (from : ℕ) where
   unfolding nextFed
   next-row h = rw (h, le-leb (0 + length row-of) (length row-of) (omega arith))
 
-  next-used : has 10 rest-of ≡ false → nextFed d kept n p from [] 0 ≡ usedFed (heldOf d kept ++ rest-of) d []
+  next-used : has 10 rest-of ≡ false → nextFed d kept n p from [] 0
+      ≡ fed (UsedUp (length (take 513 (heldOf d kept ++ rest-of)))) (over d 0 (take 513 (heldOf d kept ++ rest-of))) []
   unfolding nextFed
   next-used h = rw h
 

@@ -1,4 +1,5 @@
--- The listing of input that comes in parts. A state is an array of 513 bytes with how many of them are kept, and the number of the line.
+-- The listing of input that comes in parts. A state is an array of 513 bytes, the count of
+-- those kept, and the number of the line.
 -- Assumes nothing.
 use Prim.Native.Nat.{ℕ, suc, _+_}
 use mathlib.Core.Bool.{cond}
@@ -16,21 +17,12 @@ use Rattle.accounts.specs.declared.listing.Listed.the-variants.{Row, Use
 abbrev pub mostKept : ℕ
 mostKept = 513
 
--- the bytes of the unfinished line that a state stands for: those kept, up to a line feed. A state that the calls made keeps none,
--- so a state made by hand stands for some bytes too
+-- the bytes of the unfinished line that a state stands for: those kept, up to the first line feed among them. States that the calls make
+-- keep no line feed; cutting there gives a state made by hand a meaning too
 unfoldable pub heldOf : List ℕ → ℕ → List ℕ
 heldOf d kept = cut 10 (take kept d) .0
 
 -- ---- what a call gives
-
--- with the array and the lent buffer as it leaves them
-pub record Fed : Type 0 where
-  pub listed : Listed
-  pub array : List ℕ
-  pub buffer : List ℕ
-
-abbrev pub fed : Listed → List ℕ → List ℕ → Fed
-fed listed array buffer = record { listed = listed; array = array; buffer = buffer }
 
 -- document 01's number for each case
 abbrev pub listedNumber : Listed → ℕ
@@ -38,22 +30,33 @@ listedNumber (Row place count line) = 0
 listedNumber (UsedUp kept) = 0
 listedNumber NoRoom = 17
 
+-- the answer with its number, and the array and the lent buffer as the call leaves them
+pub record Fed : Type 0 where
+  pub number : ℕ
+  pub listed : Listed
+  pub array : List ℕ
+  pub buffer : List ℕ
+
+abbrev pub fed : Listed → List ℕ → List ℕ → Fed
+fed listed array buffer = record { number = listedNumber listed; listed = listed; array = array; buffer = buffer }
+
 -- a row at a place of the buffer; the line ends before `place`
 abbrev pub rowFed : ℕ → List ℕ → ℕ → List ℕ → List ℕ → ℕ → Fed
 rowFed n t place d buffer at =
     cond (hasRoom (length buffer) at (length t)) (fed (Row place (record { 0 = length t }) (nextLine n)) d (over buffer at t)) (fed NoRoom d buffer)
 
--- the part is used up: the first bytes of the unfinished line are kept
-abbrev pub usedFed : List ℕ → List ℕ → List ℕ → Fed
-usedFed u d buffer = fed (UsedUp (length (take mostKept u))) (over d 0 (take mostKept u)) buffer
+-- the part is used up: the first bytes of the unfinished line are kept. A place past the buffer's end is 17 even so
+abbrev pub usedFed : List ℕ → List ℕ → List ℕ → ℕ → Fed
+usedFed u d buffer at =
+    cond (hasRoom (length buffer) at 0) (fed (UsedUp (length (take mostKept u))) (over d 0 (take mostKept u)) buffer) (fed NoRoom d buffer)
 
--- the next line of a part from a place on: its row, or that the part is used up
+-- the next line of a part from a place on: its row, or that the part is used up. Free answer: from past the part's end is as from its end
 unfoldable pub nextFed : List ℕ → ℕ → ℕ → List ℕ → ℕ → List ℕ → ℕ → Fed
 nextFed d kept n part from buffer at =
     let s = drop from part in
     cond (has 10 s)
     (rowFed n (rowText n (lineAnswer (heldOf d kept ++ cut 10 s .0))) (suc (from + find 10 s)) d buffer at)
-    (usedFed (heldOf d kept ++ s) d buffer)
+    (usedFed (heldOf d kept ++ s) d buffer at)
 
 -- the row of the last line at the end of the input, where it has any byte
 unfoldable pub endPut : List ℕ → ℕ → ℕ → List ℕ → ℕ → Outcome

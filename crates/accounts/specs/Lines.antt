@@ -45,12 +45,12 @@ lineRows l =
     ∷ row 19 (not (has 9 l && isName (nameOf l)))
     ∷ []
 
-unfoldable pub lineNumber : List ℕ → ℕ
-lineNumber l = firstOf (lineRows l)
+unfoldable pub lineRefusal : List ℕ → ℕ
+lineRefusal l = firstOf (lineRows l)
 
 abbrev pub stringAnswer : List ℕ → Answer
 stringAnswer s = record { number = reading editionTwo s .number; kind = reading editionTwo s .kind }
 
 -- 18 or 19 where that row applies; otherwise what the profile reader gives for the line's own string
 unfoldable pub lineAnswer : List ℕ → Answer
-lineAnswer l = cond (eqb (lineNumber l) 0) (stringAnswer (stringOf l)) (record { number = lineNumber l; kind = 0 })
+lineAnswer l = cond (eqb (lineRefusal l) 0) (stringAnswer (stringOf l)) (record { number = lineRefusal l; kind = 0 })

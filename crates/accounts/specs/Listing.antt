@@ -13,7 +13,7 @@ use Rattle.accounts.specs.declared.line.Answer.{Answer}
 abbrev pub header : List ℕ
 header = text "line" ++ (9 ∷ (text "answer" ++ (9 ∷ (text "kind" ++ (10 ∷ [])))))
 
--- the name of a kind
+-- the name of a kind; `-` for kind 0, a refused line. Free answer: `-` for a kind past 3 too, which only an answer made by hand has
 abbrev pub kindText : ℕ → List ℕ
 kindText k = cond (eqb k 1) (text "parameters") (cond (eqb k 2) (text "salt") (cond (eqb k 3) (text "hash") (text "-")))
 
@@ -24,12 +24,12 @@ kindLine k = kindText k ++ (10 ∷ [])
 unfoldable pub rowText : ℕ → Answer → List ℕ
 rowText n a = digits n ++ (9 ∷ []) ++ digits (a .number) ++ (9 ∷ []) ++ kindLine (a .kind)
 
-abbrev pub largestLine : ℕ
-largestLine = 2 ^ 64 - 1
+abbrev pub largestLineNumber : ℕ
+largestLineNumber = 2 ^ 64 - 1
 
--- the number of the next line. Free answer: past the largest u64 it stays
+-- the number of the next line. Free answer: the line after the largest u64 has that number again
 unfoldable pub nextLine : ℕ → ℕ
-nextLine n = cond (ltb n largestLine) (suc n) n
+nextLine n = cond (ltb n largestLineNumber) (suc n) n
 
 -- the rows of lines of which the first has the number n
 abbrev pub rowsFrom : ℕ → List (List ℕ) → List ℕ

@@ -1,23 +1,24 @@
 // One line of account text, without its line feed: name, tab, string.
+use crate::limits::LONGEST_LINE;
 use grammar::bytes::is_name;
 use grammar::scan::next_at;
 use profile::reader::read;
 ghost use mathlib.Core.Path.{_≡_};
 ghost use Rattle.grammar.specs.Text.{find};
-ghost use Rattle.accounts.specs.Lines.{lineNumber, lineAnswer};
+ghost use Rattle.accounts.specs.Lines.{lineRefusal, lineAnswer};
 
-// The number of a line, and the kind of its string (1 parameters, 2 salt, 3 hash), 0 where it is refused.
+// The number of a line, and the kind of its string: 1 parameters, 2 salt, 3 hash; 0 where the line is refused.
 pub struct Answer {
     pub number: u8,
     pub kind: u8,
 }
 
 // Rows 18 and 19, given the place of the line's first tab; 0 where neither applies.
-fn line_number(line: &[u8], tab: usize) -> u8
+fn line_refusal(line: &[u8], tab: usize) -> u8
     requires { ⌜ tab ≡ find 9 (now line) ⌝ }
-    ensures { λ r. ⌜ r ≡ lineNumber (now (line .entry)) ⌝ }
+    ensures { λ r. ⌜ r ≡ lineRefusal (now (line .entry)) ⌝ }
 {
-    if 512 < line.len() {
+    if LONGEST_LINE < line.len() {
         return 18;
     }
     if line.len() <= tab {
@@ -34,7 +35,7 @@ pub fn judge(line: &[u8]) -> Answer
     ensures { λ r. ⌜ r ≡ lineAnswer (now (line .entry)) ⌝ }
 {
     let tab = next_at(line, 0, b'\t');
-    let number = line_number(line, tab);
+    let number = line_refusal(line, tab);
     if number != 0 {
         return Answer { number, kind: 0 };
     }

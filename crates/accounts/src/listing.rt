@@ -1,4 +1,6 @@
 // The listing of account text that comes in parts of any length, in constant memory: a row for each line, as soon as the line is complete.
+use crate::limits::LONGEST_LINE;
+use crate::limits::MOST_KEPT;
 use crate::line::Answer;
 use crate::line::judge;
 use crate::row::write_row;
@@ -28,7 +30,7 @@ pub enum Listed {
     UsedUp {
         kept: usize,
     },
-    // 17: the row doesn't fit. Nothing was consumed or written.
+    // 17: the place lies past the buffer's end, or the row doesn't fit. Nothing was consumed or written.
     NoRoom,
 }
 
@@ -39,11 +41,11 @@ fn least(a: usize, b: usize) -> usize
 }
 
 // How many bytes of the array the state stands for.
-fn held_len(line: &[u8], kept: usize) -> usize
-    ensures { λ r. ⌜ Held (now (line .entry)) kept r ⌝ }
+fn held_len(array: &[u8], kept: usize) -> usize
+    ensures { λ r. ⌜ Held (now (array .entry)) kept r ⌝ }
 {
-    let n = least(kept, line.len());
-    next_at(&line[0..n], 0, b'\n')
+    let n = least(kept, array.len());
+    next_at(&array[0..n], 0, b'\n')
 }
 
 // What stands from a place on; empty past the end.
@@ -60,11 +62,7 @@ fn tail(s: &[u8], from: usize) -> &[u8]
 fn next_line(line: u64) -> u64
     ensures { λ r. ⌜ r ≡ nextLine line ⌝ }
 {
-    if line < 18446744073709551615 {
-        line + 1
-    } else {
-        line
-    }
+    if line < u64::MAX { line + 1 } else { line }
 }
 
 // Judges the line of two parts, which fit the buffer one after the other.
@@ -84,13 +82,13 @@ fn judge_joined(begun: &[u8], more: &[u8]) -> Answer
     if begun.len() == 0 {
         return judge(more);
     }
-    if 512 < begun.len() {
+    if LONGEST_LINE < begun.len() {
         return Answer {
             number: 18,
             kind: 0,
         };
     }
-    if 512 - begun.len() < more.len() {
+    if LONGEST_LINE - begun.len() < more.len() {
         return Answer {
             number: 18,
             kind: 0,
@@ -101,12 +99,12 @@ fn judge_joined(begun: &[u8], more: &[u8]) -> Answer
 }
 
 // Keeps as many bytes more, after the first `held`, as there is room for.
-fn keep(line: &mut [u8], held: usize, more: &[u8]) -> usize
-    requires { ⌜ (length (now line) ≡ 513) × (held ≤ 513) ⌝ }
-    ensures { λ r. ⌜ (r ≡ held + length (take (513 - held) (now (more .entry)))) × (now (line .exit) ≡ over (now (line .entry)) held (take (513 - held) (now (more .entry)))) ⌝ }
+fn keep(array: &mut [u8], held: usize, more: &[u8]) -> usize
+    requires { ⌜ (length (now array) ≡ 513) × (held ≤ 513) ⌝ }
+    ensures { λ r. ⌜ (r ≡ held + length (take (513 - held) (now (more .entry)))) × (now (array .exit) ≡ over (now (array .entry)) held (take (513 - held) (now (more .entry)))) ⌝ }
 {
-    let count = least(513 - held, more.len());
-    write_text(&more[0..count], line, held);
+    let count = least(MOST_KEPT - held, more.len());
+    write_text(&more[0..count], array, held);
     held + count
 }
 
@@ -143,6 +141,9 @@ fn next_in(
     if end < part.len() {
         let answer = judge_joined(&array[0..held], &part[from..end]);
         return row_of(line, answer, end + 1, buf, at);
+    }
+    if buf.len() < at {
+        return Listed::NoRoom;
     }
     Listed::UsedUp {
         kept: keep(array, held, tail(part, from)),

@@ -1,4 +1,4 @@
-// A line of the listing: the line's number, its answer and its kind, parted by tabs, with a line feed.
+// A row of the listing: the line's number, its answer and its kind, parted by tabs, with a line feed.
 use crate::line::Answer;
 use grammar::decimal::unsigned_len;
 use grammar::decimal::write_unsigned;
@@ -68,7 +68,7 @@ fn put_row(line: u64, answer: Answer, out: &mut [u8]) -> usize
     before_kind + e.count.0
 }
 
-// A line of the listing, into `buf` from `at` on. 17: it doesn't fit.
+// A row of the listing, into `buf` from `at` on. 17: it doesn't fit.
 pub fn write_row(line: u64, answer: Answer, buf: &mut [u8], at: usize) -> Written
     ensures { λ r. ⌜ outcome (r .number) (r .count .0) (now (buf .exit)) ≡ put (now (buf .entry)) at (rowText line answer) ⌝ }
 {

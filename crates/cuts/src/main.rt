@@ -1,5 +1,6 @@
-// Known answers of the listing, cut everywhere: the input is fed in parts of 0 to 600 bytes, so that cuts fall in names, tabs, strings and
-// before line feeds. The stored output was worked out from document 01 apart from this code.
+// Known answers of the listing, cut at many places: the input is fed in parts of 0 to 600 bytes, so that cuts fall inside names and strings
+// and beside tabs and line feeds, and rows wait in a buffer that holds only a few. The stored output was worked out from document 01 apart
+// from this code.
 use accounts::listing::Listed;
 use accounts::listing::end;
 use accounts::listing::next;
@@ -10,10 +11,22 @@ use grammar::units::Chars;
 use libc::STDIN_FILENO;
 use libc::STDOUT_FILENO;
 
-// The bytes kept of the unfinished line, and its number.
+// The bytes kept of the unfinished line, its number, and the bytes of output that wait.
 struct State {
     kept: usize,
     line: u64,
+    used: usize,
+}
+
+// The bytes that wait after `count` more; never past the buffer.
+fn waiting(out: &[u8], used: usize, count: usize) -> usize {
+    if out.len() < used {
+        return used;
+    }
+    if out.len() - used < count {
+        return used;
+    }
+    used + count
 }
 
 fn show(out: &[u8], count: usize) {
@@ -22,34 +35,40 @@ fn show(out: &[u8], count: usize) {
     }
 }
 
-// The rows of the lines that end in a part, each written as it comes.
+// The rows of the lines that end in a part; when no more fit, those that wait are written.
 fn take_part(array: &mut [u8; 513], out: &mut [u8], text: &[u8], begun: State) -> State {
     let mut kept = begun.kept;
     let mut line = begun.line;
+    let mut used = begun.used;
     let mut from: usize = 0;
     let mut turns = u64::MAX;
     while turns > 0 {
-        match next(array, kept, line, text, from, out, 0) {
+        match next(array, kept, line, text, from, out, used) {
             Listed::Row {
                 place,
                 count,
                 line: number,
             } => {
-                show(&out[..], count.0);
+                used = waiting(&out[..], used, count.0);
                 from = place;
                 kept = 0;
                 line = number;
             }
             Listed::UsedUp { kept: more } => {
-                return State { kept: more, line };
+                return State {
+                    kept: more,
+                    line,
+                    used,
+                };
             }
             Listed::NoRoom => {
-                return State { kept, line };
+                show(&out[..], used);
+                used = 0;
             }
         }
         turns -= 1;
     }
-    State { kept, line }
+    State { kept, line, used }
 }
 
 // The next length of a part: every length from 0 to 600 comes, in leaps.
@@ -69,8 +88,8 @@ fn place_after(text: &[u8], at: usize, len: usize) -> usize {
     }
 }
 
-fn take_all(array: &mut [u8; 513], out: &mut [u8], text: &[u8]) -> State {
-    let mut state = State { kept: 0, line: 1 };
+fn take_all(array: &mut [u8; 513], out: &mut [u8], text: &[u8], begun: State) -> State {
+    let mut state = begun;
     let mut at: usize = 0;
     let mut len: usize = 0;
     let mut turns = u64::MAX;
@@ -95,17 +114,27 @@ fn take_all(array: &mut [u8; 513], out: &mut [u8], text: &[u8]) -> State {
     state
 }
 
+// The row of the last line, and what waits.
+fn finish(array: &[u8; 513], out: &mut [u8], state: State) {
+    show(&out[..], state.used);
+    let last = end(array, state.kept, state.line, out, 0);
+    let count = last.count;
+    show(&out[..], count.0);
+}
+
 fn list(text: &[u8]) {
     let mut array = [0u8; 513];
     let mut space = [0u8; 64];
     let out: &mut [u8] = &mut space;
     let header = write_header(out, 0);
     let count = header.count;
-    show(&out[..], count.0);
-    let state = take_all(&mut array, out, text);
-    let last = end(&array, state.kept, state.line, out, 0);
-    let rest = last.count;
-    show(&out[..], rest.0);
+    let begun = State {
+        kept: 0,
+        line: 1,
+        used: count.0,
+    };
+    let state = take_all(&mut array, out, text, begun);
+    finish(&array, out, state);
 }
 
 fn main() {

@@ -1,5 +1,5 @@
-// The known strings of documents 000 and 002, one on each line of standard input: read and, where accepted, written back. The stored
-// answers come from the documents. Four strings of our own stand last, for row 15, which no string of 000 reaches.
+// The known strings of documents 000 and 002, one on each line of standard input: read and, where accepted, written back. Which are
+// good the documents say; the numbers are document 01's. Four strings of our own stand last, for row 15, which no string of 000 reaches.
 use grammar::parts::part;
 use grammar::pieces::Span;
 use grammar::place::Written;

@@ -7,11 +7,12 @@ use accounts::row::write_header;
 use libc::STDIN_FILENO;
 use libc::STDOUT_FILENO;
 
-// The bytes kept of the unfinished line, its number, and the bytes of output that wait.
+// The bytes kept of the unfinished line, its number, the bytes of output that wait, and whether every write so far succeeded.
 struct State {
     kept: usize,
     line: u64,
     used: usize,
+    open: bool,
 }
 
 // A state, and whether there may be more input.
@@ -31,11 +32,12 @@ fn waiting(out: &[u8], used: usize, count: usize) -> usize {
     used + count
 }
 
-// Writes what waits.
-fn flush(out: &[u8], used: usize) {
-    if used <= out.len() {
-        io::write_all(STDOUT_FILENO, &out[0..used]);
+// Writes what waits; false where that fails.
+fn flush(out: &[u8], used: usize) -> bool {
+    if out.len() < used {
+        return false;
     }
+    io::write_all(STDOUT_FILENO, &out[0..used])
 }
 
 // The rows of the lines that end in a part; when no more fit, those that wait are written.
@@ -62,20 +64,36 @@ fn take_part(array: &mut [u8; 513], out: &mut [u8], part: &[u8], begun: State) -
                     kept: more,
                     line,
                     used,
+                    open: true,
                 };
             }
             Listed::NoRoom => {
-                flush(&out[..], used);
+                if !flush(&out[..], used) {
+                    return State {
+                        kept,
+                        line,
+                        used: 0,
+                        open: false,
+                    };
+                }
                 used = 0;
             }
         }
         turns -= 1;
     }
-    State { kept, line, used }
+    State {
+        kept,
+        line,
+        used,
+        open: true,
+    }
 }
 
-// One part of the input. What cannot be read counts as its end.
+// One part of the input. What cannot be read counts as its end; after a failed write nothing more is read.
 fn take_some(array: &mut [u8; 513], out: &mut [u8], buf: &mut [u8], state: State) -> Got {
+    if !state.open {
+        return Got { state, more: false };
+    }
     let got = libc::read(STDIN_FILENO, buf);
     if got <= 0 {
         return Got { state, more: false };
@@ -103,15 +121,20 @@ fn take_all(array: &mut [u8; 513], out: &mut [u8], buf: &mut [u8], begun: State)
     state
 }
 
-// The row of the last line, and what waits. One that doesn't fit is written into the empty buffer.
+// The row of the last line, and what waits. One that doesn't fit is written into the emptied buffer.
 fn finish(array: &[u8; 513], out: &mut [u8], state: State) {
+    if !state.open {
+        return;
+    }
     let w = end(array, state.kept, state.line, out, state.used);
     if w.number == 0 {
         let count = w.count;
         flush(&out[..], waiting(&out[..], state.used, count.0));
         return;
     }
-    flush(&out[..], state.used);
+    if !flush(&out[..], state.used) {
+        return;
+    }
     let again = end(array, state.kept, state.line, out, 0);
     let count = again.count;
     flush(&out[..], count.0);
@@ -129,6 +152,7 @@ fn main() {
         kept: 0,
         line: 1,
         used: count.0,
+        open: true,
     };
     let state = take_all(&mut array, out, buf, begun);
     finish(&array, out, state);

@@ -17,18 +17,18 @@ tab-is c = omega (arith, c .next-at .ensures)
 tabbed : (c : tie.Else1) → c .before .before .next-at .result < length (now (c .before .before .before .before .args .line))
 tabbed c =
     let l = now (c .before .before .before .before .args .line) in
-    omega (arith, tab-is (c .before .before), tab-there l (sym (c .before .line-number .ensures) ∙ c .if1 .left))
+    omega (arith, tab-is (c .before .before), tab-there l (sym (c .before .line-refusal .ensures) ∙ c .if1 .left))
 
 next-at-requires : tie.Need-next-at-requires
 next-at-requires c κs = search needs
 
-line-number-requires : tie.Need-line-number-requires
-line-number-requires c κs = tab-is c
+line-refusal-requires : tie.Need-line-refusal-requires
+line-refusal-requires c κs = tab-is c
 
 returns : tie.Need-returns
 returns c =
     let l = now (c .before .before .before .before .args .line) in
-    answer-row l (c .before .line-number .result) (c .before .line-number .ensures) (c .if1 .taken)
+    answer-row l (c .before .line-refusal .result) (c .before .line-refusal .ensures) (c .if1 .taken)
 
 add-read : tie.Need-add-read
 add-read c = omega (arith, tabbed c)
@@ -49,14 +49,14 @@ returns-2 : tie.Need-returns-2
 returns-2 c =
     let e = c .before .before in
     let l = now (e .before .before .before .before .args .line) in
-    answer-string l (e .before .before .next-at .result) (tab-is (e .before .before)) (sym (e .before .line-number .ensures) ∙ e .if1 .left) (c .read .result) (c .read .ensures)
+    answer-string l (e .before .before .next-at .result) (tab-is (e .before .before)) (sym (e .before .line-refusal .ensures) ∙ e .if1 .left) (c .read .result) (c .read .ensures)
 
 pub judge-spec : {M : Type 1} → statement M
 judge-spec =
     tie.close
     (tie.spec
     next-at-requires
-    line-number-requires
+    line-refusal-requires
     returns
     add-read
     sub-read

@@ -34,7 +34,7 @@ returns c =
     let w = c .before .before in
     let l = w .before .before .before in
     let s = l .before .before .before in
-    kept-more (now (s .args .line)) (w .write-text .last .1 .0) (now (s .args .more)) (s .args .held) (l .least .result) (w .write-text .result .number) (w .write-text .result .count .0)
+    kept-more (now (s .args .array)) (w .write-text .last .1 .0) (now (s .args .more)) (s .args .held) (l .least .result) (w .write-text .result .number) (w .write-text .result .count .0)
     (s .pre .0) (s .pre .1) (l .least .ensures) (w .write-text .ensures)
 
 pub keep-spec : {M : Type 1} → statement M

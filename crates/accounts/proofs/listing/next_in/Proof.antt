@@ -2,7 +2,7 @@
 use borrow.Author.Needs.{needs}
 use mathlib.Core.Path.{_∙_}
 use denote.Ref.{now}
-use Rattle.accounts.proofs.FeedLaws.{next-row, next-used}
+use Rattle.accounts.proofs.FeedLaws.{next-row, next-used, next-past}
 use Rattle.accounts.proofs.listing.next_in.Statement.{statement}
 use Rattle.accounts.proofs.listing.next_in.Tie as tie
 
@@ -56,26 +56,38 @@ returns c =
     next-row (now (a .array)) (a .kept) (h .held-len .result) (a .line) (now (a .part)) (a .from) (n .next-at .result) (now (a .buf)) _ (a .at) (r .row-of .result) (j .judge-joined .result)
     (h .held-len .ensures) (n .next-at .ensures) (t .if1 .taken) (j .judge-joined .ensures) (r .row-of .ensures (now (a .array)))
 
+same-length-3 : tie.Need-same-length-3
+same-length-3 c = search needs
+
+returns-2 : tie.Need-returns-2
+returns-2 c =
+    let e = c .before in
+    let n = e .before in
+    let h = n .before in
+    let a = h .before .before .before .before .before .args in
+    next-past (now (a .array)) (a .kept) (h .held-len .result) (a .line) (now (a .part)) (a .from) (n .next-at .result) (now (a .buf)) (a .at) (n .next-at .ensures) (e .if1 .left) (c .if2 .taken)
+
 tail-requires : tie.Need-tail-requires
 tail-requires c κs = search needs
 
 keep-requires : tie.Need-keep-requires
 keep-requires c κs = search needs
 
-same-length-3 : tie.Need-same-length-3
-same-length-3 c = search needs
+same-length-4 : tie.Need-same-length-4
+same-length-4 c = search needs
 
-returns-2 : tie.Need-returns-2
-returns-2 c =
+returns-3 : tie.Need-returns-3
+returns-3 c =
     let k = c .before .before in
     let t = k .before in
-    let e = t .before .before in
+    let i = t .before .before in
+    let e = i .before in
     let n = e .before in
     let h = n .before in
     let s = h .before .before .before .before .before in
     let a = s .args in
     next-used (now (a .array)) (a .kept) (h .held-len .result) (a .line) (now (a .part)) (a .from) (n .next-at .result) (now (a .buf)) (k .keep .last .0) (a .at) (k .keep .result) (now (t .tail .result))
-    (s .pre) (h .held-len .ensures) (n .next-at .ensures) (e .if1 .left) (t .tail .ensures) (k .keep .ensures .0) (k .keep .ensures .1)
+    (i .if2 .left) (s .pre) (h .held-len .ensures) (n .next-at .ensures) (e .if1 .left) (t .tail .ensures) (k .keep .ensures .0) (k .keep .ensures .1)
 
 pub next-in-spec : {M : Type 1} → statement M
 next-in-spec =
@@ -95,7 +107,9 @@ next-in-spec =
     same-length
     same-length-2
     returns
+    same-length-3
+    returns-2
     tail-requires
     keep-requires
-    same-length-3
-    returns-2)
+    same-length-4
+    returns-3)

@@ -1,4 +1,4 @@
--- `accounts::line::line_number` meets its contract, row by row. Assumes nothing.
+-- `accounts::line::line_refusal` meets its contract, row by row. Assumes nothing.
 use mathlib.Core.Bool.{false, true}
 use mathlib.Core.Path.{_≡_, sym, ap, _∙_}
 use native.Mathlib.Omega.{arith}
@@ -7,8 +7,8 @@ use borrow.Author.Tests.{lt-ltb, le-ltb}
 use denote.Ref.{now}
 use Rattle.grammar.specs.Rules.{isName}
 use Rattle.accounts.proofs.LineLaws.{line-long, line-untabbed, line-named, line-unnamed}
-use Rattle.accounts.proofs.line.line_number.Statement.{statement}
-use Rattle.accounts.proofs.line.line_number.Tie as tie
+use Rattle.accounts.proofs.line.line_refusal.Statement.{statement}
+use Rattle.accounts.proofs.line.line_refusal.Tie as tie
 
 returns : tie.Need-returns
 returns c = sym (line-long (now (c .before .before .args .line)) (c .if1 .taken))
@@ -42,8 +42,8 @@ returns-4 c =
     let s = e .before .before .before in
     sym (line-unnamed (now (s .args .line)) (s .args .tab) (s .pre) (e .before .if1 .left) (omega (arith, e .if2 .left)) (sym (c .before .is-name .ensures) ∙ c .if3 .left))
 
-pub line-number-spec : {M : Type 1} → statement M
-line-number-spec =
+pub line-refusal-spec : {M : Type 1} → statement M
+line-refusal-spec =
     tie.close
     (tie.spec
     returns
