@@ -1,0 +1,713 @@
+//! Compares the library, through its C interface, with the plain rules of `reference.rs`.
+
+mod reference;
+
+use reference::{Fields, IDS};
+use std::fmt::Debug;
+use std::process::exit;
+
+/// As in phc.h.
+const PHC_ROOM: usize = 265;
+const PHC_RECORD: usize = 20;
+
+type StringEntry = unsafe extern "C" fn(*const u8, usize, *mut u8, usize) -> u64;
+
+extern "C" {
+    fn phc_read(s: *const u8, s_len: usize, record: *mut u8, record_len: usize) -> u64;
+    fn phc_keyid(s: *const u8, s_len: usize, buf: *mut u8, buf_len: usize) -> u64;
+    fn phc_data(s: *const u8, s_len: usize, buf: *mut u8, buf_len: usize) -> u64;
+    fn phc_salt(s: *const u8, s_len: usize, buf: *mut u8, buf_len: usize) -> u64;
+    fn phc_output(s: *const u8, s_len: usize, buf: *mut u8, buf_len: usize) -> u64;
+    fn phc_write(
+        id: u8, has_version: u8, version: u32, m: u32, t: u32, p: u32,
+        keyid: *const u8, keyid_len: usize, data: *const u8, data_len: usize,
+        salt: *const u8, salt_len: usize, output: *const u8, output_len: usize,
+        buf: *mut u8, buf_len: usize,
+    ) -> u64;
+}
+
+const KNOWN: [(&str, u64); 16] = [
+    ("$argon2i$m=120,t=5000,p=2$/LtFjH5rVL8", 0),
+    ("$argon2i$m=120,t=5000,p=2,keyid=Hj5+dsK0ZQA", 0),
+    ("$argon2j$m=120,t=5000,p=2", 8),
+    ("$argon2i$m=15,t=5000,p=2", 11),
+    ("$argon2i$m=16,t=1,p=2", 0),
+    ("$argon2i$m=0120,t=5000,p=2", 11),
+    ("$argon2i$m=120,t=4294967296,p=2", 11),
+    ("$argon2i$m=120,t=5000,p=2,keyid=Hj5+dsK0Z", 12),
+    ("$argon2i$m=120,t=5000,p=2,keyid=Hj5+dsK0ZR", 12),
+    ("$argon2i$t=5000,p=2", 10),
+    ("$argon2id$v=18$m=8,t=1,p=1", 9),
+    ("$argon2i$v=19,m=8,t=1,p=1", 3),
+    ("$pbkdf2s2", 0),
+    ("$pbkdf2s2$t=20000", 13),
+    ("$pbkdf2s2$t=99", 11),
+    ("$pbkdf2s2$", 5),
+];
+
+// Chance.
+
+/// Xorshift with a multiplied output.
+struct Rng(u64);
+
+impl Rng {
+    fn new(seed: u64) -> Rng {
+        // The state must not be 0.
+        Rng(seed ^ 0x9e37_79b9_7f4a_7c15 | 1 << 63)
+    }
+
+    fn next(&mut self) -> u64 {
+        self.0 ^= self.0 >> 12;
+        self.0 ^= self.0 << 25;
+        self.0 ^= self.0 >> 27;
+        self.0.wrapping_mul(0x2545_f491_4f6c_dd1d) >> 16
+    }
+
+    /// A number below n, which is not 0.
+    fn below(&mut self, n: usize) -> usize {
+        (self.next() % n as u64) as usize
+    }
+
+    /// True once in n.
+    fn once_in(&mut self, n: usize) -> bool {
+        self.below(n) == 0
+    }
+
+    fn pick<T: Clone>(&mut self, from: &[T]) -> T {
+        from[self.below(from.len())].clone()
+    }
+
+    fn bytes(&mut self, len: usize) -> Vec<u8> {
+        (0..len).map(|_| self.next() as u8).collect()
+    }
+}
+
+// Lent memory.
+
+const GUARD: usize = 16;
+
+/// A slice to lend, with guard bytes before and after it.
+struct Lent {
+    memory: Vec<u8>,
+    len: usize,
+    null: bool,
+}
+
+impl Lent {
+    fn new(rng: &mut Rng, content: &[u8]) -> Lent {
+        let mut memory = rng.bytes(GUARD);
+        memory.extend_from_slice(content);
+        memory.extend(rng.bytes(GUARD));
+        Lent { memory, len: content.len(), null: content.is_empty() && rng.once_in(2) }
+    }
+
+    fn room(rng: &mut Rng, room: usize) -> Lent {
+        let content = rng.bytes(room);
+        Lent::new(rng, &content)
+    }
+
+    fn ptr(&mut self) -> *mut u8 {
+        if self.null {
+            return std::ptr::null_mut();
+        }
+        self.memory[GUARD..].as_mut_ptr()
+    }
+
+    /// The whole memory as it must be once these bytes are written from the slice's start.
+    fn with(&self, bytes: &[u8]) -> Vec<u8> {
+        let mut memory = self.memory.clone();
+        memory[GUARD..GUARD + bytes.len()].copy_from_slice(bytes);
+        memory
+    }
+}
+
+// Comparison.
+
+/// The writer's arguments, as the C interface takes them.
+#[derive(Clone, Debug)]
+struct Arguments {
+    has_version: u8,
+    version: u32,
+    /// All but the version.
+    fields: Fields,
+}
+
+impl Arguments {
+    fn of(fields: &Fields) -> Arguments {
+        let (has_version, version) = (u8::from(fields.version.is_some()), fields.version.unwrap_or(0));
+        Arguments { has_version, version, fields: fields.clone() }
+    }
+
+    fn meaning(&self) -> Fields {
+        let version = match self.has_version {
+            0 => None,
+            1 => Some(self.version),
+            // Refused as a version that no profile permits.
+            _ => Some(u32::MAX),
+        };
+        Fields { version, ..self.fields.clone() }
+    }
+}
+
+struct Run {
+    seed: u64,
+    rng: Rng,
+    cases: u64,
+    read: u64,
+    written: u64,
+    longest: usize,
+    /// Answers seen, by number.
+    reader_numbers: [u64; 18],
+    writer_numbers: [u64; 18],
+}
+
+impl Run {
+    fn same<T: PartialEq + Debug>(&self, what: &str, input: &dyn Fn() -> String, library: &T, reference: &T) {
+        if library != reference {
+            println!("mismatch in {what}, seed {}", self.seed);
+            println!("input:     {}", input());
+            println!("library:   {library:?}");
+            println!("reference: {reference:?}");
+            exit(1);
+        }
+    }
+
+    /// Calls an entry that takes a string and a buffer, and compares the answer and each byte of the lent memory.
+    fn string_entry(&mut self, name: &str, entry: StringEntry, s: &[u8], room: usize, expected: Result<Vec<u8>, u8>, scale: u64) {
+        let mut string = Lent::new(&mut self.rng, s);
+        let mut buffer = Lent::room(&mut self.rng, room);
+        let (string_after, mut buffer_after) = (string.memory.clone(), buffer.memory.clone());
+        let answer = match expected.and_then(|bytes| reference::fit(bytes, room)) {
+            Ok(bytes) => {
+                buffer_after = buffer.with(&bytes);
+                scale * bytes.len() as u64
+            }
+            Err(number) => u64::from(number),
+        };
+        // SAFETY: both slices are whole and apart; NULL goes with the length 0 only.
+        let given = unsafe { entry(string.ptr(), string.len, buffer.ptr(), buffer.len) };
+        let input = || format!("\"{}\" with room {room}", s.escape_ascii());
+        self.same(name, &input, &given, &answer);
+        self.same(&format!("{name}'s buffer and its guards"), &input, &buffer.memory, &buffer_after);
+        self.same(&format!("{name}'s string and its guards"), &input, &string.memory, &string_after);
+    }
+
+    /// The reader and the four byte strings, with rooms of the caller's choice from what is needed.
+    fn compare_rooms(&mut self, s: &[u8], choose: &mut dyn FnMut(&mut Rng, usize) -> usize) {
+        let expected = reference::read(s);
+        let record = expected.as_ref().map(|(kind, f)| {
+            let mut record = vec![*kind, f.id, u8::from(f.version.is_some()), 0];
+            for n in [f.version.unwrap_or(0), f.m, f.t, f.p] {
+                record.extend(n.to_le_bytes());
+            }
+            record
+        });
+        let room = choose(&mut self.rng, PHC_RECORD);
+        self.string_entry("phc_read", phc_read, s, room, record.map_err(|n| *n), 0);
+
+        let parts: [(&str, StringEntry, fn(&Fields) -> &Vec<u8>); 4] = [
+            ("phc_keyid", phc_keyid, |f| &f.keyid),
+            ("phc_data", phc_data, |f| &f.data),
+            ("phc_salt", phc_salt, |f| &f.salt),
+            ("phc_output", phc_output, |f| &f.output),
+        ];
+        for (name, entry, part) in parts {
+            let bytes = expected.as_ref().map(|(_, f)| part(f).clone()).map_err(|n| *n);
+            let room = choose(&mut self.rng, bytes.as_ref().map_or(0, Vec::len));
+            self.string_entry(name, entry, s, room, bytes, 100);
+        }
+
+        self.cases += 1;
+        self.reader_numbers[usize::from(*expected.as_ref().err().unwrap_or(&0))] += 1;
+        if let Ok((_, fields)) = expected {
+            self.read += 1;
+            let again = reference::write(&fields);
+            self.same("the reference's own way back", &|| s.escape_ascii().to_string(), &Ok(s.to_vec()), &again);
+            self.write_entry(&Arguments::of(&fields), s.len()).ok();
+        }
+    }
+
+    fn compare_string(&mut self, s: &[u8]) {
+        self.compare_rooms(s, &mut some_room);
+    }
+
+    /// Calls the writer and compares; the written string, if any.
+    fn write_entry(&mut self, arguments: &Arguments, room: usize) -> Result<Vec<u8>, u8> {
+        let expected = reference::write(&arguments.meaning()).and_then(|bytes| reference::fit(bytes, room));
+        let f = &arguments.fields;
+        let mut parts = [&f.keyid, &f.data, &f.salt, &f.output].map(|bytes| Lent::new(&mut self.rng, bytes));
+        let parts_after = parts.each_ref().map(|part| part.memory.clone());
+        let mut buffer = Lent::room(&mut self.rng, room);
+        let (answer, buffer_after) = match &expected {
+            Ok(bytes) => (100 * bytes.len() as u64, buffer.with(bytes)),
+            Err(number) => (u64::from(*number), buffer.memory.clone()),
+        };
+        let [keyid, data, salt, output] = &mut parts;
+        // SAFETY: the slices are whole and apart; NULL goes with the length 0 only.
+        let given = unsafe {
+            phc_write(
+                f.id, arguments.has_version, arguments.version, f.m, f.t, f.p,
+                keyid.ptr(), keyid.len, data.ptr(), data.len, salt.ptr(), salt.len, output.ptr(), output.len,
+                buffer.ptr(), buffer.len,
+            )
+        };
+        let input = || format!("{arguments:?} with room {room}");
+        self.same("phc_write", &input, &given, &answer);
+        self.same("phc_write's buffer and its guards", &input, &buffer.memory, &buffer_after);
+        self.same("phc_write's byte strings and their guards", &input, &parts.map(|part| part.memory), &parts_after);
+        expected
+    }
+
+    fn compare_fields(&mut self, arguments: &Arguments) {
+        let needed = reference::write(&arguments.meaning()).map_or(0, |s| s.len());
+        let room = if self.rng.once_in(4) { PHC_ROOM } else { some_room(&mut self.rng, needed) };
+        let answer = self.write_entry(arguments, room);
+        self.cases += 1;
+        self.writer_numbers[usize::from(*answer.as_ref().err().unwrap_or(&0))] += 1;
+        if let Ok(s) = answer {
+            self.written += 1;
+            self.longest = self.longest.max(s.len());
+            let fields = reference::read(&s).map(|(_, fields)| fields);
+            self.same("the reference's own way forth", &|| format!("{arguments:?}"), &Ok(arguments.meaning()), &fields);
+        }
+    }
+}
+
+/// Mostly enough, now and then one short, or anything.
+fn some_room(rng: &mut Rng, needed: usize) -> usize {
+    match rng.below(8) {
+        0 => needed.saturating_sub(1),
+        1 => rng.below(needed + 4),
+        2..=4 => needed,
+        _ => needed + rng.below(40),
+    }
+}
+
+// Fields.
+
+const VERSIONS: [u32; 10] = [0, 1, 15, 16, 17, 18, 19, 20, u32::MAX - 1, u32::MAX];
+const ID_NUMBERS: [u8; 9] = [0, 1, 2, 3, 4, 5, 6, 7, 255];
+
+fn is_argon2(id: u8) -> bool {
+    (1..=3).contains(&id)
+}
+
+fn good_fields(rng: &mut Rng, id: u8) -> Fields {
+    let limits = reference::limits(id).unwrap();
+    let argon2 = is_argon2(id);
+    let any_p = 1 + rng.below(255) as u32;
+    let p = if argon2 { rng.pick(&[1, 2, 254, 255, any_p]) } else { 0 };
+    let m_low = if argon2 { 8 * p } else { 0 };
+    let m_high = if argon2 { u32::MAX } else { 0 };
+    // Each count of digits comes up.
+    let wide = |rng: &mut Rng, low: u32, high: u32| (rng.next() as u32 >> rng.below(32)).clamp(low, high);
+    let m = wide(rng, m_low, m_high);
+    let t = match (rng.below(3), limits.t_omitted) {
+        (0, Some(t)) => t,
+        (1, Some(t)) => t - 1 + rng.below(3) as u32,
+        _ => wide(rng, *limits.t.start(), *limits.t.end()),
+    };
+    let version = if limits.versions.is_empty() || rng.once_in(3) { None } else { Some(rng.pick(limits.versions)) };
+    let some = |rng: &mut Rng, range: &std::ops::RangeInclusive<usize>| {
+        let len = range.start() + rng.below(range.end() - range.start() + 1);
+        let len = rng.pick(&[*range.start(), *range.end(), len, len]);
+        rng.bytes(len)
+    };
+    let (keyid, data) = (some(rng, &limits.keyid), some(rng, &limits.data));
+    let (mut salt, mut output) = (some(rng, &limits.salt), some(rng, &limits.output));
+    match rng.below(5) {
+        0 => (salt, output) = (vec![], vec![]),
+        1 => output = vec![],
+        _ => {}
+    }
+    Fields { id, version, m, t, p, keyid, data, salt, output }
+}
+
+fn any_good_fields(rng: &mut Rng) -> Fields {
+    let id = 1 + rng.below(5) as u8;
+    good_fields(rng, id)
+}
+
+fn numbers(p: u32) -> Vec<u32> {
+    let mut all = vec![0, 1, 2, 7, 8, 9, 99, 100, 101, 254, 255, 256, 19_999, 20_000, 20_001, u32::MAX - 1, u32::MAX];
+    // 8p as it is, and as a product that wraps would have it.
+    let eight = p.wrapping_mul(8);
+    all.extend([eight.wrapping_sub(1), eight, eight.wrapping_add(1)]);
+    all
+}
+
+/// Changes one field to a value at, near or past a limit.
+fn push_to_limit(rng: &mut Rng, a: &mut Arguments) {
+    let near = |rng: &mut Rng, limits: &[usize]| {
+        let len = rng.pick(limits) + rng.below(3);
+        rng.bytes(len.saturating_sub(1))
+    };
+    let f = &mut a.fields;
+    match rng.below(10) {
+        0 => f.id = rng.pick(&ID_NUMBERS),
+        1 => a.has_version = rng.pick(&[0, 1, 1, 2, 255]),
+        2 => (a.has_version, a.version) = (1, rng.pick(&VERSIONS)),
+        3 => f.m = rng.pick(&numbers(f.p)),
+        4 => f.t = rng.pick(&numbers(0)),
+        5 => f.p = rng.pick(&[0, 1, 2, 254, 255, 256, 1 << 29, (1 << 29) + 1, u32::MAX]),
+        6 => f.keyid = near(rng, &[0, 1, 8]),
+        7 => f.data = near(rng, &[0, 1, 32]),
+        8 => f.salt = near(rng, &[0, 4, 8, 32, 48]),
+        _ => f.output = near(rng, &[0, 12, 64, 96]),
+    }
+}
+
+/// The fields spelled as they stand, permitted or not.
+fn spell(a: &Arguments) -> Vec<u8> {
+    let f = &a.fields;
+    let id = match f.id {
+        1..=5 => IDS[usize::from(f.id) - 1],
+        0 => "",
+        6 => "argon2",
+        7 => "pbkdf2s4",
+        _ => "scrypt",
+    };
+    let mut s = format!("${id}").into_bytes();
+    if a.has_version != 0 {
+        s.extend(format!("$v={}", a.version).bytes());
+    }
+    let mut items: Vec<Vec<u8>> = Vec::new();
+    for (name, n) in [("m", f.m), ("t", f.t), ("p", f.p)] {
+        // In pbkdf2 m and p have no place, and t=20000 is for the mutations.
+        let shown = is_argon2(f.id) || if name == "t" { n != 20_000 } else { n != 0 };
+        if shown {
+            items.push(format!("{name}={n}").into_bytes());
+        }
+    }
+    for (name, bytes) in [("keyid=", &f.keyid), ("data=", &f.data)] {
+        if !bytes.is_empty() {
+            items.push([name.as_bytes(), &reference::b64_encode(bytes)].concat());
+        }
+    }
+    if !items.is_empty() {
+        s.push(b'$');
+        s.extend(items.join(&b','));
+    }
+    for bytes in [&f.salt, &f.output] {
+        if !bytes.is_empty() {
+            s.push(b'$');
+            s.extend(reference::b64_encode(bytes));
+        }
+    }
+    s
+}
+
+fn both_ways(run: &mut Run, a: &Arguments) {
+    run.compare_fields(a);
+    run.compare_string(&spell(a));
+}
+
+fn generated(run: &mut Run) {
+    // Every field at its high end, for the longest strings.
+    for id in 1..=5 {
+        let limits = reference::limits(id).unwrap();
+        let [keyid, data, salt, output] =
+            [&limits.keyid, &limits.data, &limits.salt, &limits.output].map(|range| run.rng.bytes(*range.end()));
+        let (m, t, p) = (*limits.m.end(), *limits.t.end(), *limits.p.end());
+        let fields = Fields { id, version: limits.versions.last().copied(), m, t, p, keyid, data, salt, output };
+        // Often enough for a room that suffices.
+        for _ in 0..20 {
+            both_ways(run, &Arguments::of(&fields));
+        }
+    }
+    // One field at a time, at every value.
+    for id in ID_NUMBERS {
+        let column = if (1..=5).contains(&id) { id } else { 1 };
+        let base = |rng: &mut Rng| {
+            let mut a = Arguments::of(&good_fields(rng, column));
+            a.fields.id = id;
+            a
+        };
+        for has_version in [0, 1, 2, 255] {
+            for version in VERSIONS {
+                let a = Arguments { has_version, version, ..base(&mut run.rng) };
+                both_ways(run, &a);
+            }
+        }
+        for p in [0, 1, 2, 254, 255, 256, 1 << 29, u32::MAX] {
+            for m in numbers(p) {
+                for t in numbers(0) {
+                    let mut a = base(&mut run.rng);
+                    (a.fields.m, a.fields.t, a.fields.p) = (m, t, p);
+                    both_ways(run, &a);
+                }
+            }
+        }
+        for len in 0..=100 {
+            for part in 0..4 {
+                let mut a = base(&mut run.rng);
+                let bytes = run.rng.bytes(len);
+                let f = &mut a.fields;
+                *[&mut f.keyid, &mut f.data, &mut f.salt, &mut f.output][part] = bytes;
+                both_ways(run, &a);
+            }
+        }
+        for salt in 0..=50 {
+            for output in 0..=66 {
+                let mut a = base(&mut run.rng);
+                (a.fields.salt, a.fields.output) = (run.rng.bytes(salt), run.rng.bytes(output));
+                both_ways(run, &a);
+            }
+        }
+    }
+    // Some fields together, for the order of the rows.
+    for round in 0..60_000 {
+        let mut a = Arguments::of(&any_good_fields(&mut run.rng));
+        for _ in 0..round % 4 {
+            push_to_limit(&mut run.rng, &mut a);
+        }
+        both_ways(run, &a);
+    }
+}
+
+// The grammar's limits.
+
+fn grammar_limits(run: &mut Run) {
+    let of = |rng: &mut Rng, set: &[u8], len: usize| -> Vec<u8> { (0..len).map(|_| rng.pick(set)).collect() };
+    let text = |rng: &mut Rng, len: usize| of(rng, b"abzAZ09/+.-", len);
+    let name = |rng: &mut Rng, len: usize| of(rng, b"abz09-", len);
+    for _ in 0..20_000 {
+        let rng = &mut run.rng;
+        // One length in eight breaks its rule.
+        let len = |rng: &mut Rng, high: usize| match rng.below(16) {
+            0 => high + 1,
+            1 => 0,
+            2..=6 => 1,
+            _ => high,
+        };
+        let id_len = len(rng, 32);
+        let id = if rng.once_in(2) { rng.pick(&IDS).as_bytes().to_vec() } else { name(rng, id_len) };
+        let mut s = [b"$".to_vec(), id].concat();
+        if !rng.once_in(3) {
+            s.extend(b"$v=");
+            s.extend(rng.pick(&NUMERALS).bytes());
+        }
+        if !rng.once_in(3) {
+            let count = len(rng, 16).max(1);
+            let mut items = Vec::new();
+            for _ in 0..count {
+                let (name_len, value_len) = if rng.once_in(8) { (len(rng, 32), len(rng, 128)) } else { (32, 128) };
+                items.push([name(rng, name_len), text(rng, value_len)].join(&b'='));
+            }
+            s.push(b'$');
+            s.extend(items.join(&b','));
+        }
+        for piece in 0..rng.below(4) {
+            let len = len(rng, 128);
+            s.push(b'$');
+            s.extend(if piece == 0 { text(rng, len) } else { reference::b64_encode(&vec![0xa5; len * 3 / 4]) });
+            if piece == 1 && len > 128 {
+                s.push(b'A');
+            }
+        }
+        run.compare_string(&s);
+    }
+    // The whole at its limit, one short of it and one past it.
+    let item = [vec![b'n'; 32], vec![b'0'; 128]].join(&b'=');
+    let whole = [&b""[..], &[b'i'; 32], b"v=4294967295", &vec![item; 16].join(&b','), &[b's'; 128], &[b'A'; 128]].join(&b'$');
+    run.compare_string(&whole);
+    run.compare_string(&whole[..whole.len() - 1]);
+    for place in 0..whole.len() {
+        let mut s = whole.clone();
+        s.insert(place, whole[place]);
+        run.compare_string(&s);
+    }
+}
+
+// Mutations.
+
+const ALPHABET: &[u8] = b"$$$$==,,,vmtpkeyidatargon2pbkdf2s3idABab0123456789+/.-";
+
+const NUMERALS: [&str; 22] = [
+    "", "0", "00", "-", "-0", "-1", "+1", "1", "01", "16", "19", "019", "19 ", "99", "100", "20000", "020000", "4294967295", "4294967296",
+    "9223372036854775808", "18446744073709551617", "340282366920938463463374607431768211457",
+];
+
+/// Splits at a byte, changes the list of parts, joins again.
+fn in_parts(rng: &mut Rng, s: &[u8], by: u8) -> Vec<u8> {
+    let mut parts: Vec<Vec<u8>> = s.split(|c| *c == by).map(<[u8]>::to_vec).collect();
+    let (a, b) = (rng.below(parts.len()), rng.below(parts.len()));
+    match rng.below(5) {
+        0 => parts.swap(a, b),
+        1 => parts.insert(b, parts[a].clone()),
+        2 => drop(parts.remove(a)),
+        3 => parts.truncate(a + 1),
+        _ => parts[b] = parts[a].clone(),
+    }
+    parts.join(&by)
+}
+
+/// Changes the items of one piece that has some.
+fn in_items(rng: &mut Rng, s: &[u8]) -> Vec<u8> {
+    let mut parts: Vec<Vec<u8>> = s.split(|c| *c == b'$').map(<[u8]>::to_vec).collect();
+    if let Some(piece) = parts.iter_mut().find(|piece| piece.contains(&b',')) {
+        *piece = in_parts(rng, piece, b',');
+    }
+    parts.join(&b'$')
+}
+
+/// Puts another numeral in place of one after an `=`.
+fn in_numeral(rng: &mut Rng, s: &[u8]) -> Vec<u8> {
+    let starts: Vec<usize> = (1..=s.len()).filter(|i| s[i - 1] == b'=').collect();
+    if starts.is_empty() {
+        return s.to_vec();
+    }
+    let start = rng.pick(&starts);
+    let end = start + s[start..].iter().take_while(|c| c.is_ascii_digit()).count();
+    [&s[..start], rng.pick(&NUMERALS).as_bytes(), &s[end..]].concat()
+}
+
+/// Changes the last character of a piece or item, where the unused bits are.
+fn in_last_character(rng: &mut Rng, s: &[u8]) -> Vec<u8> {
+    let ends: Vec<usize> = (1..=s.len()).filter(|i| *i == s.len() || matches!(s[*i], b'$' | b',')).collect();
+    let mut s = s.to_vec();
+    if let Some(end) = ends.get(rng.below(ends.len().max(1))) {
+        s[end - 1] = rng.pick(b"AQgwEIMUYcBCDPR/+.-");
+    }
+    s
+}
+
+fn mutate(rng: &mut Rng, s: &[u8], other: &[u8]) -> Vec<u8> {
+    let mut s = s.to_vec();
+    let place = rng.below(s.len() + 1);
+    let byte = if rng.once_in(4) { rng.next() as u8 } else { rng.pick(ALPHABET) };
+    match rng.below(12) {
+        0 if place < s.len() => s[place] = byte,
+        1 if place < s.len() => s[place] ^= 1 << rng.below(8),
+        2 => s.insert(place, byte),
+        3 if place < s.len() => drop(s.remove(place)),
+        4 => s.truncate(place),
+        5 => s.extend(rng.pick(&["$", "$AAAA", "$AAAAAAAAAAAAAAAA", "A", "=", ","]).bytes()),
+        6 => {
+            let from = rng.below(other.len() + 1);
+            s.truncate(place);
+            s.extend(&other[from..]);
+        }
+        7 => {
+            // Joined where pieces meet.
+            let cuts = |s: &[u8]| -> Vec<usize> { (0..=s.len()).filter(|i| *i == s.len() || s[*i] == b'$').collect() };
+            s.truncate(rng.pick(&cuts(&s)));
+            s.extend(&other[rng.pick(&cuts(other))..]);
+        }
+        8 => s = in_parts(rng, &s, b'$'),
+        9 => s = in_items(rng, &s),
+        10 => s = in_numeral(rng, &s),
+        11 => s = in_last_character(rng, &s),
+        _ => {}
+    }
+    s
+}
+
+fn mutations(run: &mut Run) {
+    for _ in 0..150_000 {
+        let one = |rng: &mut Rng| {
+            if rng.once_in(8) {
+                return rng.pick(&KNOWN).0.as_bytes().to_vec();
+            }
+            reference::write(&any_good_fields(rng)).unwrap()
+        };
+        let (mut s, other) = (one(&mut run.rng), one(&mut run.rng));
+        for _ in 0..1 + run.rng.below(3) {
+            s = mutate(&mut run.rng, &s, &other);
+        }
+        run.compare_string(&s);
+    }
+}
+
+// Random bytes.
+
+fn random(run: &mut Run) {
+    for round in 0..60_000 {
+        let rng = &mut run.rng;
+        let len = if rng.once_in(200) { 2_800 + rng.below(200) } else { rng.below(64) };
+        let mut s: Vec<u8> = match round % 3 {
+            0 => rng.bytes(len),
+            _ => (0..len).map(|_| rng.pick(ALPHABET)).collect(),
+        };
+        if round % 3 == 2 {
+            s.splice(0..0, format!("${}$", rng.pick(&IDS)).into_bytes());
+        }
+        run.compare_string(&s);
+    }
+}
+
+// Buffers.
+
+fn buffers(run: &mut Run) {
+    for round in 0..40 {
+        let fields = good_fields(&mut run.rng, 1 + round % 5);
+        let s = reference::write(&fields).unwrap();
+        for room in 0..s.len() + 20 {
+            run.write_entry(&Arguments::of(&fields), room).ok();
+            run.cases += 1;
+        }
+        for room in 0..84 {
+            run.compare_rooms(&s, &mut |_, _| room);
+        }
+    }
+    // Refusals keep their number, whatever the room.
+    for (s, _) in KNOWN {
+        for room in 0..30 {
+            run.compare_rooms(s.as_bytes(), &mut |_, _| room);
+        }
+    }
+    // Often enough that each empty slice comes both as NULL and otherwise.
+    for _ in 0..200 {
+        run.compare_rooms(b"", &mut |_, _| 0);
+        let empty = Fields { id: 4, version: None, m: 0, t: 100, p: 0, keyid: vec![], data: vec![], salt: vec![], output: vec![] };
+        run.write_entry(&Arguments::of(&empty), 0).ok();
+        run.write_entry(&Arguments::of(&empty), PHC_ROOM).ok();
+        run.cases += 2;
+    }
+}
+
+fn known(run: &mut Run) {
+    for (s, number) in KNOWN {
+        let input = || s.to_string();
+        let reference = reference::read(s.as_bytes()).err().map_or(0, u64::from);
+        run.same("the reference's number of a known string", &input, &reference, &number);
+        let (mut string, mut record) = (Lent::new(&mut run.rng, s.as_bytes()), Lent::room(&mut run.rng, PHC_RECORD));
+        // SAFETY: both slices are whole and apart.
+        let library = unsafe { phc_read(string.ptr(), string.len, record.ptr(), record.len) };
+        run.same("the library's number of a known string", &input, &library, &number);
+        run.compare_string(s.as_bytes());
+    }
+}
+
+fn main() {
+    let seed = match std::env::args().nth(1) {
+        None => 1,
+        Some(text) => text.parse().unwrap_or_else(|_| {
+            eprintln!("usage: compare [seed]");
+            exit(2)
+        }),
+    };
+    println!("seed {seed}");
+    let rng = Rng::new(seed);
+    let mut run =
+        Run { seed, rng, cases: 0, read: 0, written: 0, longest: 0, reader_numbers: [0; 18], writer_numbers: [0; 18] };
+
+    known(&mut run);
+    generated(&mut run);
+    grammar_limits(&mut run);
+    mutations(&mut run);
+    random(&mut run);
+    buffers(&mut run);
+
+    println!("{} cases compared, {} accepted by the reader, {} by the writer", run.cases, run.read, run.written);
+
+    // A run that leaves a rule out shows nothing of it.
+    assert!(run.cases >= 300_000 && run.read > 20_000 && run.written > 20_000, "too few cases");
+    for row in 0..=15 {
+        assert!(run.reader_numbers[row] > 100, "the reader's number {row} came up too seldom");
+    }
+    for row in [0, 8, 9, 11, 12, 14, 15, 16, 17] {
+        assert!(run.writer_numbers[row] > 100, "the writer's number {row} came up too seldom");
+    }
+    assert_eq!(run.longest, PHC_ROOM, "the longest string");
+}
