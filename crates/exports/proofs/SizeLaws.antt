@@ -1,16 +1,13 @@
 -- Counts are small: no string is longer than 265 bytes, and no byte string longer than its string.
 -- Assumes nothing.
 use Prim.Native.Nat.{ℕ, _+_, _≤_}
-use mathlib.Core.Bool.{Bool, true, false, cond, true≢false}
 use mathlib.Core.List.{List, [], _∷_}
-use mathlib.Core.Path.{_≡_, refl, sym, ap, _∙_}
+use mathlib.Core.Path.{_≡_, sym, ap, _∙_}
 use native.Mathlib.Omega.{arith}
-use lib.Dec.{eqb}
 use lib.ListN.{length}
-use borrow.Author.Tests.{eqb-true, eq-eqb}
-use Rattle.grammar.specs.Place.{Outcome, outcome, refused, put, putAfter}
+use Rattle.grammar.specs.Place.{Outcome, outcome, putAfter}
 use Rattle.grammar.proofs.B64Laws.{length-encode}
-use Rattle.grammar.proofs.Writing.{put-zero}
+use Rattle.grammar.proofs.Writing.{after-zero, after-done}
 use Rattle.profile.specs.Limits.{editionTwo, room}
 use Rattle.profile.specs.Fields.{FieldSet, chosen, writeBytes}
 use Rattle.profile.specs.Reader.{answer, fieldsOf}
@@ -26,21 +23,18 @@ use Rattle.profile.proofs.Lengths.{most-room}
 use Rattle.profile.proofs.Accepted.{accepted}
 
 -- what a number of 0 says of a number before it, and of the count
-after-zero : (n : ℕ) (buffer bytes : List ℕ) (number count : ℕ) (left : List ℕ) → outcome number count left ≡ putAfter n buffer 0 bytes → number ≡ 0
+counted : (n : ℕ) (buffer bytes : List ℕ) (number count : ℕ) (left : List ℕ) → outcome number count left ≡ putAfter n buffer 0 bytes → number ≡ 0
     → (n ≡ 0) × (count ≡ length bytes)
-unfolding putAfter
-after-zero n buffer bytes number count left e z = go (eqb n 0) refl e
-  where
-    go : (b : Bool) → eqb n 0 ≡ b → outcome number count left ≡ cond b (put buffer 0 bytes) (refused n buffer) → (n ≡ 0) × (count ≡ length bytes)
-    go true q e = (eqb-true n 0 q, put-zero buffer 0 bytes count left ((λ i. outcome (sym z i) count left) ∙ e) .count-is)
-    go false q e = absurd (true≢false (sym (eq-eqb n 0 (sym (ap (λ (o : Outcome). o .number) e) ∙ z)) ∙ q))
+counted n buffer bytes number count left e z =
+    let q = after-zero n buffer 0 bytes (sym (ap (λ (o : Outcome). o .number) e) ∙ z) in
+    (q .0, ap (λ (o : Outcome). o .count) (e ∙ after-done n buffer 0 bytes (q .0) (q .1)))
 
 -- ---- written
 
 pub written-small : (f : FieldSet) (buffer : List ℕ) (number count : ℕ) (left : List ℕ) → outcome number count left ≡ writing editionTwo f buffer 0 → number ≡ 0 → count ≤ room
 unfolding writing
 written-small f buffer number count left e z =
-    let q = after-zero (refusal editionTwo f) buffer (formatted editionTwo f) number count left e z in
+    let q = counted (refusal editionTwo f) buffer (formatted editionTwo f) number count left e z in
     omega (arith, q .1, most-room f (kept editionTwo f (q .0)))
 
 -- ---- decoded
@@ -59,5 +53,5 @@ pub decoded-small : (c : ByteString) (s buffer : List ℕ) (number count : ℕ) 
 unfolding decoded
 decoded-small c s buffer number count left e z =
     let f = fieldsOf editionTwo s in
-    let q = after-zero (answer editionTwo s) buffer (chosen c f) number count left e z in
+    let q = counted (answer editionTwo s) buffer (chosen c f) number count left e z in
     omega (arith, q .1, chosen-small f (kept-of editionTwo f (accepted editionTwo edition-two-sound s (q .0) .0)) c)

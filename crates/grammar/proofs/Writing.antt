@@ -2,15 +2,15 @@
 -- Assumes nothing.
 use Prim.Native.Nat.{ℕ, _+_, _-_, _<_, _≤_}
 use mathlib.Core.Path.{_≡_, refl, sym, ap, _∙_}
-use mathlib.Core.Bool.{Bool, true, false, cond}
+use mathlib.Core.Bool.{Bool, true, false, cond, true≢false}
 use mathlib.Core.List.{List, _++_, append-nil}
 use native.Mathlib.Omega.{arith}
 use native.Mathlib.Nat.{le-of-eq}
 use native.Mathlib.Decide.{decLe}
-use lib.Dec.{leb}
+use lib.Dec.{leb, eqb}
 use lib.ListN.{length, take, drop, length-drop}
 use lib.Seq.{drop-at, drop-drop, length-take-le, drop-length, take-all, take-append-seam}
-use borrow.Author.Tests.{le-leb, lt-leb, ne-eqb, leb-true}
+use borrow.Author.Tests.{eqb-true, eq-eqb, ne-eqb, le-leb, lt-leb, leb-true}
 use borrow.Rule.Slice.PartMut.{putMid, post-is}
 use Rattle.grammar.specs.Place.{Outcome, outcome, refused, over, put, putAfter}
 
@@ -87,3 +87,22 @@ pub over-back : (buffer bytes : List ℕ) (at : ℕ) → at ≤ length buffer �
 over-back buffer bytes at h =
     rw (drop-at (take at buffer) (bytes ++ drop (at + length bytes) buffer) at (length-take-le at buffer h))
     (take-append-seam bytes (drop (at + length bytes) buffer))
+
+-- ---- after a number that may already refuse
+
+-- a number of 0 where bytes were to be written was a number of 0 before, and they fit
+pub after-zero : (n : ℕ) (buffer : List ℕ) (at : ℕ) (bytes : List ℕ) → putAfter n buffer at bytes .number ≡ 0 → (n ≡ 0) × (at + length bytes ≤ length buffer)
+unfolding putAfter put
+after-zero n buffer at bytes z = go (eqb n 0) refl (leb (at + length bytes) (length buffer)) refl z
+  where
+    go : (b : Bool) → eqb n 0 ≡ b → (r : Bool) → leb (at + length bytes) (length buffer) ≡ r
+        → cond b (cond r (outcome 0 (length bytes) (over buffer at bytes)) (refused 17 buffer)) (refused n buffer) .number ≡ 0
+        → (n ≡ 0) × (at + length bytes ≤ length buffer)
+    go true q true t z = (eqb-true n 0 q, leb-true (at + length bytes) (length buffer) t)
+    go true q false t z = absurd (omega arith)
+    go false q r t z = absurd (true≢false (sym (eq-eqb n 0 z) ∙ q))
+
+-- bytes that fit are written where no number refuses
+pub after-done : (n : ℕ) (buffer : List ℕ) (at : ℕ) (bytes : List ℕ) → n ≡ 0 → at + length bytes ≤ length buffer
+    → putAfter n buffer at bytes ≡ outcome 0 (length bytes) (over buffer at bytes)
+after-done n buffer at bytes z h = put-clear buffer at bytes n z ∙ sym (put-done buffer at bytes h (length bytes) refl (over buffer at bytes) refl)

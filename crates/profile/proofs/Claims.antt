@@ -1,17 +1,17 @@
 -- The claims of specs/Claims.antt but `ShortAgrees` and `Examples`, proved: over every edition that passes the tests that they take, and for edition two.
 -- Assumes nothing.
 use Prim.Native.Nat.{ℕ, _+_, _≤_}
-use mathlib.Core.Bool.{Bool, true, false, not, cond, _||_, true≢false}
+use mathlib.Core.Bool.{Bool, true, not, _||_}
 use mathlib.Core.List.{List, _++_}
 use mathlib.Core.Path.{_≡_, refl, sym, _∙_, ap, subst}
 use native.Mathlib.Omega.{arith}
-use lib.Dec.{leb, eqb}
+use lib.Dec.{leb}
 use lib.ListN.{length, take, drop, replicate, length-append}
-use borrow.Author.Tests.{eqb-true, eq-eqb, leb-true, le-leb, lt-leb}
-use Rattle.grammar.specs.Place.{Outcome, outcome, refused, over, put, putAfter}
+use borrow.Author.Tests.{leb-true, le-leb, lt-leb}
+use Rattle.grammar.specs.Place.{Outcome, outcome, over}
 use Rattle.grammar.specs.Pieces.{Pieces, pieces}
 use Rattle.grammar.proofs.Tests.{from-within}
-use Rattle.grammar.proofs.Writing.{put-done, put-clear, over-back}
+use Rattle.grammar.proofs.Writing.{over-back, after-zero, after-done}
 use Rattle.profile.specs.Limits.{Profile, lowest, highest, profileOf, editionTwo, room}
 use Rattle.profile.specs.Fields.{FieldSet, chosen, writeBytes}
 use Rattle.profile.specs.Reader.{answer, fieldsOf}
@@ -45,23 +45,6 @@ pub demand-3-two : Demand3 editionTwo
 demand-3-two = demand-3 editionTwo edition-two-sound
 
 -- ---- outcomes
-
--- a number of 0 where bytes were to be written was a number of 0 before, and they fit
-after-zero : (n : ℕ) (buffer : List ℕ) (at : ℕ) (bytes : List ℕ) → putAfter n buffer at bytes .number ≡ 0 → (n ≡ 0) × (at + length bytes ≤ length buffer)
-unfolding putAfter put
-after-zero n buffer at bytes z = go (eqb n 0) refl (leb (at + length bytes) (length buffer)) refl z
-  where
-    go : (b : Bool) → eqb n 0 ≡ b → (r : Bool) → leb (at + length bytes) (length buffer) ≡ r
-        → cond b (cond r (outcome 0 (length bytes) (over buffer at bytes)) (refused 17 buffer)) (refused n buffer) .number ≡ 0
-        → (n ≡ 0) × (at + length bytes ≤ length buffer)
-    go true q true t z = (eqb-true n 0 q, leb-true (at + length bytes) (length buffer) t)
-    go true q false t z = absurd (omega arith)
-    go false q r t z = absurd (true≢false (sym (eq-eqb n 0 z) ∙ q))
-
--- bytes that fit are written where no number refuses
-after-done : (n : ℕ) (buffer : List ℕ) (at : ℕ) (bytes : List ℕ) → n ≡ 0 → at + length bytes ≤ length buffer
-    → putAfter n buffer at bytes ≡ outcome 0 (length bytes) (over buffer at bytes)
-after-done n buffer at bytes z h = put-clear buffer at bytes n z ∙ sym (put-done buffer at bytes h (length bytes) refl (over buffer at bytes) refl)
 
 read-kind : (e : List Profile) (ok : sound e ≡ true) (f : FieldSet) → Permitted e f
     → _≡_ {A = Reading} (record { number = 0; kind = kindOf (pieces (formatted e f) .salt) (pieces (formatted e f) .output); fields = f .numbers })
