@@ -9,10 +9,10 @@ use native.Mathlib.Numerals.{add-one}
 use lib.Dec.{eqb}
 use lib.ListN.{length, getD, take, drop, set, take-append-drop}
 use lib.Seq.{drop-cons, set-split, sets-eq}
-use borrow.Author.Tests.{ltb-true, eq-eqb, ne-eqb}
+use borrow.Author.Tests.{ltb-true, le-leb, lt-leb, eq-eqb, ne-eqb}
 use Rattle.grammar.specs.Text.{all}
 use Rattle.grammar.specs.Place.{over}
-use Rattle.grammar.specs.B64.{sextet, letter, inAlphabet, last, lowBitsZero, canonical, decode, char0, char1, char2, char3, encode}
+use Rattle.grammar.specs.B64.{sextet, letter, inAlphabet, last, lowBitsZero, canonical, decode, char0, char1, char2, char3, encode, groupOf}
 use Rattle.grammar.specs.B64Steps.{completedByte, completedBytes}
 use Rattle.grammar.proofs.Tests.{both}
 use Rattle.grammar.proofs.Groups.{Partly, partly-room, partly-step}
@@ -160,3 +160,12 @@ module _ (b d : List ℕ) (p q r s : ℕ) (ep : p ≡ char0 (getD b 0 0)) where
   pub group-stored : q ≡ char1 (getD b 0 0) (getD b 1 0) → r ≡ char2 (getD b 1 0) (getD b 2 0) → s ≡ char3 (getD b 2 0) → EncodeGroup b → 4 ≤ length d
       → set (set (set (set d 0 p) 1 q) 2 r) 3 s ≡ take 4 (encode b) ++ drop 4 d
   group-stored eq er es g h = rw (ep, eq, er, es, sets-eq (_ ∷ _ ∷ _ ∷ _ ∷ []) d 0 h, g .chars)
+
+-- ---- four sextets as one number
+
+module _ (a b c d x y z w : ℕ) (ea : x ≡ a) (eb : y ≡ b) (ec : z ≡ c) (ed : w ≡ d) where
+  pub group-past : 252 < x + y + z + w → 16777216 ≡ groupOf a b c d
+  group-past h = rw (lt-leb (a + b + c + d) 252 (omega (arith, ea, eb, ec, ed)))
+
+  pub group-bits : x + y + z + w ≤ 252 → (x * 64 + y) * 4096 + (z * 64 + w) ≡ groupOf a b c d
+  group-bits h = rw (le-leb (a + b + c + d) 252 (omega (arith, ea, eb, ec, ed)), ea, eb, ec, ed)

@@ -46,7 +46,7 @@ unfolding valueFrom
 value-next s i n h = rw (add-one, drop-cons s i 0 h)
 
 -- more digits make no smaller number
-value-grows : (s : List ℕ) (n : ℕ) → n ≤ valueFrom n s
+pub value-grows : (s : List ℕ) (n : ℕ) → n ≤ valueFrom n s
 unfolding valueFrom
 value-grows [] n = omega arith
 value-grows (c ∷ s) n = omega (arith, value-grows s (n * 10 + (c - 48)))

@@ -4,7 +4,7 @@ use Prim.Native.Nat.{ℕ, _+_, _-_, _*_, _/_, _%_, _<_}
 use mathlib.Core.Path.{_≡_}
 use mathlib.Core.Bool.{Bool, not, cond, _&&_}
 use mathlib.Core.List.{List, [], _∷_}
-use lib.Dec.{ltb, eqb}
+use lib.Dec.{leb, ltb, eqb}
 use lib.ListN.{length, getD}
 use Rattle.grammar.specs.Text.{within, all}
 use Rattle.grammar.specs.Place.{Outcome, put, putAfter}
@@ -70,6 +70,11 @@ decode (a ∷ []) = []
 decode (a ∷ b ∷ []) = byte0 a b ∷ []
 decode (a ∷ b ∷ c ∷ []) = byte0 a b ∷ byte1 b c ∷ []
 decode (a ∷ b ∷ c ∷ d ∷ t) = byte0 a b ∷ byte1 b c ∷ byte2 c d ∷ decode t
+
+-- the 24 bits of a group of four sextets; 2^24 where one of them is 255, for a byte outside the alphabet.
+-- Free answer: of numbers from 64 to 254, which are no sextets, what the sum says
+abbrev pub groupOf : ℕ → ℕ → ℕ → ℕ → ℕ
+groupOf a b c d = cond (leb (a + b + c + d) 252) ((a * 64 + b) * 4096 + (c * 64 + d)) 16777216
 
 -- ---- from bytes to characters, three to four; a byte missing in the last group counts as 0
 

@@ -16,7 +16,7 @@ ghost use lib.Dec.{eqb};
 ghost use lib.ListN.{length, take, drop};
 ghost use Rattle.grammar.specs.Text.{all};
 ghost use Rattle.grammar.specs.Place.{outcome, over};
-ghost use Rattle.grammar.specs.B64.{sextet, Sextets, letter, Letters, inAlphabet, lowBitsZero, canonical, decode, encode, decoding, encoding};
+ghost use Rattle.grammar.specs.B64.{sextet, Sextets, letter, Letters, inAlphabet, lowBitsZero, canonical, decode, encode, groupOf, decoding, encoding};
 ghost use Rattle.grammar.specs.B64Steps.{completedByte, completedBytes};
 
 fn sextet_of(table: &[u8; 256], c: u8) -> u8
@@ -152,6 +152,26 @@ pub fn decode(text: &[u8], buf: &mut [u8], at: usize) -> Decoded
         number: 12,
         count: Bytes(0),
     }
+}
+
+fn wide(x: u8) -> u32
+    ensures { λ r. ⌜ r ≡ x ⌝ }
+{
+    x as u32
+}
+
+// The 24 bits of a group of four sextets, as one number; 2^24 where one of them is 255. One comparison tests all four.
+pub fn group(a: u8, b: u8, c: u8, d: u8) -> u32
+    ensures { λ r. ⌜ r ≡ groupOf a b c d ⌝ }
+{
+    let x = wide(a);
+    let y = wide(b);
+    let z = wide(c);
+    let w = wide(d);
+    if 252 < x + y + z + w {
+        return 16777216;
+    }
+    (x * 64 + y) * 4096 + (z * 64 + w)
 }
 
 // The first three bytes, as four characters.

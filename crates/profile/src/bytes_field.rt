@@ -1,5 +1,6 @@
 // One byte string: its rule over the span of its text, and over its bytes. Sizes are in bytes, lengths of texts in characters.
 use crate::limits::BytesRule;
+use crate::limits::is_size;
 use grammar::b64::is_canonical;
 use grammar::parts::part;
 use grammar::pieces::Span;
@@ -10,22 +11,9 @@ ghost use Prim.Native.Nat.{ℕ};
 ghost use mathlib.Core.Path.{_≡_};
 ghost use mathlib.Core.List.{List};
 ghost use Rattle.grammar.specs.Text.{broken};
-ghost use Rattle.profile.specs.Limits.{isSize};
 ghost use Rattle.profile.specs.Fields.{isSized, isBytes, misplacedBytes};
 ghost use Rattle.profile.specs.Writer.{bytesAllowed};
 ghost use Rattle.profile.specs.ReaderSteps.{slotIn};
-
-pub fn is_size(rule: BytesRule, size: Bytes) -> bool
-    ensures { λ r. ⌜ r ≡ isSize rule (size .0) ⌝ }
-{
-    match rule {
-        BytesRule::Sized { low, high } => {
-            let n = size.0;
-            low.0 <= n && n <= high.0
-        }
-        BytesRule::Barred => false,
-    }
-}
 
 // There where it is no parameter. The text doesn't matter.
 pub fn misplaced_bytes(rule: BytesRule, span: Span) -> bool

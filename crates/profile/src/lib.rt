@@ -1,9 +1,10 @@
 // The five profiles over the grammar's promises: argon2d, argon2i, argon2id, pbkdf2s2, pbkdf2s3.
 mod bytes_field;
 pub mod fields;
-mod ids;
+pub mod ids;
 mod judge;
-mod limits;
+pub mod limits;
+mod name_field;
 mod number_field;
 pub mod reader;
 mod tagged;

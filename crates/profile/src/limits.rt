@@ -2,7 +2,7 @@
 use crate::fields::Version;
 use grammar::units::Bytes;
 ghost use mathlib.Core.Path.{_≡_};
-ghost use Rattle.profile.specs.Limits.{versionAllowed, profileOf, limitsOf, editionTwo};
+ghost use Rattle.profile.specs.Limits.{lowest, highest, inRange, isSize, versionAllowed, profileOf, limitsOf, editionTwo};
 
 // A number parameter: always written; left out where it is `given`; or none of this id's, and `given`.
 pub enum NumberRule {
@@ -26,6 +26,52 @@ pub struct Limits {
     pub ad: BytesRule,
     pub salt: BytesRule,
     pub output: BytesRule,
+}
+
+pub fn lowest_of(rule: NumberRule) -> u32
+    ensures { λ r. ⌜ r ≡ lowest rule ⌝ }
+{
+    match rule {
+        NumberRule::Needed { low, high: _ } => low,
+        NumberRule::Omitted {
+            low,
+            high: _,
+            given: _,
+        } => low,
+        NumberRule::Fixed { given } => given,
+    }
+}
+
+pub fn highest_of(rule: NumberRule) -> u32
+    ensures { λ r. ⌜ r ≡ highest rule ⌝ }
+{
+    match rule {
+        NumberRule::Needed { low: _, high } => high,
+        NumberRule::Omitted {
+            low: _,
+            high,
+            given: _,
+        } => high,
+        NumberRule::Fixed { given } => given,
+    }
+}
+
+pub fn in_range(rule: NumberRule, n: u32) -> bool
+    ensures { λ r. ⌜ r ≡ inRange rule n ⌝ }
+{
+    lowest_of(rule) <= n && n <= highest_of(rule)
+}
+
+pub fn is_size(rule: BytesRule, size: Bytes) -> bool
+    ensures { λ r. ⌜ r ≡ isSize rule (size .0) ⌝ }
+{
+    match rule {
+        BytesRule::Sized { low, high } => {
+            let n = size.0;
+            low.0 <= n && n <= high.0
+        }
+        BytesRule::Barred => false,
+    }
 }
 
 const LARGEST: u32 = 4294967295;

@@ -1,5 +1,7 @@
 // One number parameter: its rule over the span of its value, and its text.
 use crate::limits::NumberRule;
+use crate::limits::highest_of;
+use crate::limits::lowest_of;
 use crate::tagged::decimal_len;
 use crate::tagged::put_decimal;
 use grammar::decimal::Limited;
@@ -15,7 +17,7 @@ ghost use lib.ListN.{length};
 ghost use Rattle.grammar.specs.Rules.{firstOf};
 ghost use Rattle.grammar.specs.Decimal.{digits};
 ghost use Rattle.grammar.specs.Numerals.{limitedValue};
-ghost use Rattle.profile.specs.Limits.{lowest, highest, inRange, room};
+ghost use Rattle.profile.specs.Limits.{room};
 ghost use Rattle.profile.specs.Fields.{numberReading, misplacedNumber, readNumber, writtenOut, writeNumber};
 ghost use Rattle.profile.specs.Reader.{numberRow};
 ghost use Rattle.profile.specs.ReaderSteps.{slotIn};
@@ -26,34 +28,6 @@ ghost use Rattle.profile.specs.WriterSteps.{tagged, taggedLength};
 pub struct Number {
     pub number: u8,
     pub value: u32,
-}
-
-fn lowest_of(rule: NumberRule) -> u32
-    ensures { λ r. ⌜ r ≡ lowest rule ⌝ }
-{
-    match rule {
-        NumberRule::Needed { low, high: _ } => low,
-        NumberRule::Omitted {
-            low,
-            high: _,
-            given: _,
-        } => low,
-        NumberRule::Fixed { given } => given,
-    }
-}
-
-fn highest_of(rule: NumberRule) -> u32
-    ensures { λ r. ⌜ r ≡ highest rule ⌝ }
-{
-    match rule {
-        NumberRule::Needed { low: _, high } => high,
-        NumberRule::Omitted {
-            low: _,
-            high,
-            given: _,
-        } => high,
-        NumberRule::Fixed { given } => given,
-    }
 }
 
 // Missing where it is needed, or there where it is no parameter. The text doesn't matter.
@@ -138,12 +112,6 @@ pub fn written_out(rule: NumberRule, span: Span, value: u32) -> bool
         }
         NumberRule::Fixed { given: _ } => false,
     }
-}
-
-pub fn in_range(rule: NumberRule, n: u32) -> bool
-    ensures { λ r. ⌜ r ≡ inRange rule n ⌝ }
-{
-    lowest_of(rule) <= n && n <= highest_of(rule)
 }
 
 // Whether a number is left out of the string.

@@ -2,10 +2,10 @@
 use crate::bytes_field::bytes_allowed;
 use crate::fields::Fields;
 use crate::limits::Limits;
+use crate::limits::in_range;
 use crate::limits::is_known;
 use crate::limits::limits_of;
 use crate::limits::version_allowed;
-use crate::number_field::in_range;
 ghost use mathlib.Core.Path.{_≡_};
 ghost use Rattle.grammar.specs.Rules.{firstOf};
 ghost use Rattle.profile.specs.Limits.{editionTwo};

@@ -1,8 +1,8 @@
 // The string of fields: its length, and putting it at the start of a buffer, piece after piece.
 use crate::fields::Fields;
-use crate::ids::name_len;
-use crate::ids::put_name;
 use crate::limits::Limits;
+use crate::name_field::name_len;
+use crate::name_field::put_name;
 use crate::number_field::number_len;
 use crate::number_field::put_number;
 use crate::tagged::bytes_len;

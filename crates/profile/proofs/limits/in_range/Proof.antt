@@ -1,8 +1,8 @@
--- `profile::number_field::in_range` meets its contract. Assumes nothing.
+-- `profile::limits::in_range` meets its contract. Assumes nothing.
 use borrow.Author.Needs.{needs}
 use borrow.Author.Tests.{le-leb, lt-leb}
-use Rattle.profile.proofs.number_field.in_range.Statement.{statement}
-use Rattle.profile.proofs.number_field.in_range.Tie as tie
+use Rattle.profile.proofs.limits.in_range.Statement.{statement}
+use Rattle.profile.proofs.limits.in_range.Tie as tie
 
 lowest-of-requires : tie.Need-lowest-of-requires
 lowest-of-requires c κs = search needs

@@ -1,8 +1,8 @@
--- `profile::bytes_field::is_size` meets its contract. Assumes nothing.
+-- `profile::limits::is_size` meets its contract. Assumes nothing.
 use borrow.Author.Needs.{needs}
 use borrow.Author.Tests.{le-leb, lt-leb}
-use Rattle.profile.proofs.bytes_field.is_size.Statement.{statement}
-use Rattle.profile.proofs.bytes_field.is_size.Tie as tie
+use Rattle.profile.proofs.limits.is_size.Statement.{statement}
+use Rattle.profile.proofs.limits.is_size.Tie as tie
 
 enum-known-rule : tie.Need-enum-known-rule
 enum-known-rule c = search needs

@@ -1,9 +1,9 @@
--- `profile::ids::name_len` meets its contract. Assumes nothing.
+-- `profile::name_field::name_len` meets its contract. Assumes nothing.
 use mathlib.Core.Path.{sym, _∙_}
 use borrow.Author.Tests.{lt-ltb, le-ltb}
 use Rattle.profile.proofs.LimitLaws.{name-length}
-use Rattle.profile.proofs.ids.name_len.Statement.{statement}
-use Rattle.profile.proofs.ids.name_len.Tie as tie
+use Rattle.profile.proofs.name_field.name_len.Statement.{statement}
+use Rattle.profile.proofs.name_field.name_len.Tie as tie
 
 returns : tie.Need-returns
 returns c =

@@ -1,4 +1,4 @@
--- `profile::ids::put_name` meets its contract, id by id. Assumes nothing.
+-- `profile::name_field::put_name` meets its contract, id by id. Assumes nothing.
 use Prim.Native.Nat.{ℕ, suc, _≤_}
 use mathlib.Core.List.{List, _∷_}
 use mathlib.Core.Path.{_≡_, sym, subst}
@@ -9,8 +9,8 @@ use lib.ListN.{length}
 use Rattle.profile.specs.Limits.{profileOf, editionTwo}
 use Rattle.grammar.specs.PlaceSteps.{Wrote}
 use Rattle.profile.proofs.LimitLaws.{no-name}
-use Rattle.profile.proofs.ids.put_name.Statement.{statement}
-use Rattle.profile.proofs.ids.put_name.Tie as tie
+use Rattle.profile.proofs.name_field.put_name.Statement.{statement}
+use Rattle.profile.proofs.name_field.put_name.Tie as tie
 
 -- from the number in a `match` to the id
 room : (id k : ℕ) (out : List ℕ) → id ≡ k → suc (length (profileOf editionTwo id .name)) ≤ length out → suc (length (profileOf editionTwo k .name)) ≤ length out

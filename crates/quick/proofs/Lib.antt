@@ -1,0 +1,12 @@
+pub mod Runs
+pub mod Numerals
+pub mod Chains
+pub mod StringLaws
+pub mod RunLaws
+pub mod Starts
+pub mod ItemTexts
+pub mod Stands
+pub mod Taken
+pub mod Found
+pub mod Walked
+pub mod Answers
