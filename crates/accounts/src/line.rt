@@ -2,7 +2,7 @@
 use crate::limits::LONGEST_LINE;
 use grammar::bytes::is_name;
 use grammar::scan::next_at;
-use profile::reader::read;
+use quick::reader::read;
 ghost use mathlib.Core.Path.{_≡_};
 ghost use Rattle.grammar.specs.Text.{find};
 ghost use Rattle.accounts.specs.Lines.{lineRefusal, lineAnswer};

@@ -1,3 +1,4 @@
 pub mod CodeLaws
 pub mod SizeLaws
 pub mod RecordLaws
+pub mod WholeLaws

@@ -1,9 +1,8 @@
 // Reading: the record of a string, and each of its byte strings.
-use crate::record::record_bytes;
-use grammar::place::write_text;
+use crate::record::put_record;
 use profile::fields::ByteString;
 use profile::reader::byte_string;
-use profile::reader::read;
+use quick::reader::read;
 ghost use mathlib.Core.Path.{_≡_};
 ghost use Rattle.profile.specs.Limits.{editionTwo};
 ghost use Rattle.profile.specs.Entries.{decoded};
@@ -20,9 +19,11 @@ pub extern "C" fn phc_read(s: &[u8], record: &mut [u8]) -> u64
     if number != 0 {
         return number as u64;
     }
-    let bytes = record_bytes(r);
-    let w = write_text(&bytes, record, 0);
-    w.number as u64
+    if record.len() < 20 {
+        return 17;
+    }
+    put_record(r, record);
+    0
 }
 
 // One byte string into the buffer from its start: a hundred times the count, or the refusal's number.

@@ -1,12 +1,18 @@
-// A record as bytes: kind, id, 1 where a version is written, 0, then version, m, t and p as 32-bit little-endian numbers.
+// A record as bytes: kind, id, 1 where a version is written, 0, then version, m, t and p as 32-bit little-endian numbers; and the counts of the
+// four byte strings after it.
+use grammar::place::write_text;
+use profile::fields::Contents;
 use profile::fields::Reading;
 use profile::fields::Version;
-ghost use Prim.Native.Nat.{_%_};
+ghost use Prim.Native.Nat.{_%_, _≤_};
 ghost use mathlib.Core.Path.{_≡_};
-ghost use Rattle.exports.specs.Records.{versionFlag, versionNumber, recordBytes};
+ghost use mathlib.Core.List.{_++_};
+ghost use lib.ListN.{length};
+ghost use Rattle.grammar.specs.Place.{over};
+ghost use Rattle.exports.specs.Records.{versionFlag, versionNumber, words, headBytes, recordBytes, countBytes, recordLength, wholeLength};
 
 // The lowest eight bits.
-fn low(n: u32) -> u8
+fn low(n: usize) -> u8
     ensures { λ r. ⌜ r ≡ n % 256 ⌝ }
 {
     (n % 256) as u8
@@ -30,35 +36,70 @@ fn version_number(version: Version) -> u32
     }
 }
 
-pub fn record_bytes(r: Reading) -> [u8; 20]
-    ensures { λ b. ⌜ b ≡ recordBytes r ⌝ }
+// Four numbers of 32 bits, little-endian.
+fn four_words(a: usize, b: usize, c: usize, d: usize) -> [u8; 16]
+    ensures { λ r. ⌜ r ≡ words a b c d ⌝ }
+{
+    [
+        low(a),
+        low(a / 256),
+        low(a / 65536),
+        low(a / 16777216),
+        low(b),
+        low(b / 256),
+        low(b / 65536),
+        low(b / 16777216),
+        low(c),
+        low(c / 256),
+        low(c / 65536),
+        low(c / 16777216),
+        low(d),
+        low(d / 256),
+        low(d / 65536),
+        low(d / 16777216),
+    ]
+}
+
+fn head_bytes(r: Reading) -> [u8; 4]
+    ensures { λ b. ⌜ b ≡ headBytes r ⌝ }
 {
     let fields = r.fields;
     let version = fields.version;
-    let v = version_number(version);
-    let m = fields.m;
-    let t = fields.t;
-    let p = fields.p;
-    [
-        r.kind,
-        fields.id,
-        version_flag(version),
-        0,
-        low(v),
-        low(v / 256),
-        low(v / 65536),
-        low(v / 16777216),
-        low(m),
-        low(m / 256),
-        low(m / 65536),
-        low(m / 16777216),
-        low(t),
-        low(t / 256),
-        low(t / 65536),
-        low(t / 16777216),
-        low(p),
-        low(p / 256),
-        low(p / 65536),
-        low(p / 16777216),
-    ]
+    [r.kind, fields.id, version_flag(version), 0]
+}
+
+fn number_bytes(r: Reading) -> [u8; 16]
+    ensures { λ b. ⌜ b ≡ words (versionNumber (r .fields .version)) (r .fields .m) (r .fields .t) (r .fields .p) ⌝ }
+{
+    let fields = r.fields;
+    let version = fields.version;
+    four_words(
+        version_number(version) as usize,
+        fields.m as usize,
+        fields.t as usize,
+        fields.p as usize,
+    )
+}
+
+// The record at the start of a buffer that has room for it.
+pub fn put_record(r: Reading, out: &mut [u8])
+    requires { ⌜ recordLength ≤ length (now out) ⌝ }
+    ensures { λ _. ⌜ now (out .exit) ≡ over (now (out .entry)) 0 (recordBytes r) ⌝ }
+{
+    write_text(&head_bytes(r), out, 0);
+    write_text(&number_bytes(r), out, 4);
+}
+
+// The record and the counts after it.
+pub fn put_whole(c: Contents, out: &mut [u8])
+    requires { ⌜ wholeLength ≤ length (now out) ⌝ }
+    ensures { λ _. ⌜ now (out .exit) ≡ over (now (out .entry)) 0 (recordBytes (c .reading) ++ countBytes c) ⌝ }
+{
+    let r = c.reading;
+    put_record(r, out);
+    write_text(
+        &four_words(c.keyid.0, c.ad.0, c.salt.0, c.output.0),
+        out,
+        20,
+    );
 }

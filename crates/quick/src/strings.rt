@@ -15,14 +15,7 @@ pub enum Two {
     To(usize, usize, usize),
 }
 
-pub fn keys(
-    table: &[u8; 256],
-    limits: Limits,
-    s: &[u8],
-    at: usize,
-    mark: u8,
-    out: &mut [u8],
-) -> Two
+pub fn keys(table: &[u8; 256], limits: Limits, s: &[u8], at: usize, mark: u8, out: &mut [u8]) -> Two
     requires { ⌜ (at ≤ length (now s)) × (most (limits .keyid) + most (limits .ad) + 2 ≤ length (now out)) ⌝ }
     requires { ⌜ Sextets (now table) ⌝ }
     ensures { λ r. ⌜ TwoAre (keysIn limits mark (drop at (now (s .entry)))) (most (limits .keyid) + most (limits .ad)) (now (s .entry)) (now (out .entry)) 0 (now (out .exit)) r ⌝ }

@@ -1,7 +1,7 @@
 -- `exports::reading::phc_read` meets its contract. Assumes nothing.
-use borrow.Author.Needs.{needs}
 use denote.Ref.{now}
-use Rattle.exports.proofs.RecordLaws.{record-refused, record-put}
+use Rattle.exports.proofs.RecordLaws.{record-refused, record-full, record-done}
+use borrow.Author.Needs.{needs}
 use Rattle.exports.proofs.reading.phc_read.Statement.{statement}
 use Rattle.exports.proofs.reading.phc_read.Tie as tie
 
@@ -17,30 +17,25 @@ returns c =
     let a = r .before .before .before .args in
     record-refused (now (a .s)) (now (a .«record»)) (r .read .result) (r .read .ensures) (c .if1 .taken)
 
-record-bytes-requires : tie.Need-record-bytes-requires
-record-bytes-requires c κs = search needs
+returns-2 : tie.Need-returns-2
+returns-2 c =
+    let r = c .before .before in
+    let a = r .before .before .before .args in
+    record-full (now (a .s)) (now (a .«record»)) (r .read .result) (r .read .ensures) (c .before .if1 .left) (c .if2 .taken)
 
-slice-aggregate-write-text : tie.Need-slice-aggregate-write-text
-slice-aggregate-write-text c = search needs
-
-write-text-requires : tie.Need-write-text-requires
-write-text-requires c κs = search needs
-
-cast-result-2 : tie.Need-cast-result-2
-cast-result-2 c = search needs
+put-record-requires : tie.Need-put-record-requires
+put-record-requires c κs = search needs
 
 same-length : tie.Need-same-length
 same-length c = search needs
 
-returns-2 : tie.Need-returns-2
-returns-2 c =
-    let w = c .before .before .before in
-    let b = w .before .before .before in
-    let e = b .before in
-    let r = e .before in
+returns-3 : tie.Need-returns-3
+returns-3 c =
+    let p = c .before .before in
+    let e = p .before .before in
+    let r = e .before .before in
     let a = r .before .before .before .args in
-    record-put (now (a .s)) (now (a .«record»)) (r .read .result) (r .read .ensures) (e .if1 .left) (b .record-bytes .result) (b .record-bytes .ensures)
-    (w .write-text .result .number) (w .write-text .result .count .0) _ (w .write-text .ensures)
+    record-done (now (a .s)) (now (a .«record»)) (r .read .result) (r .read .ensures) (e .before .if1 .left) (e .if2 .left) _ (p .put-record .ensures)
 
 pub phc-read-spec : {M : Type 1} → statement M
 phc-read-spec =
@@ -49,9 +44,7 @@ phc-read-spec =
     read-requires
     cast-result
     returns
-    record-bytes-requires
-    slice-aggregate-write-text
-    write-text-requires
-    cast-result-2
+    returns-2
+    put-record-requires
     same-length
-    returns-2)
+    returns-3)

@@ -35,7 +35,7 @@ shared-slice-read-if2-2 : tie.Need-shared-slice-read-if2-2 Inv-loop μ-loop
 shared-slice-read-if2-2 c = search needs
 
 returns-2 : tie.Need-returns-2 Inv-loop μ-loop
-returns-2 c = 
+returns-2 c =
     let p = c .before .before .before .before in
     let a = p .before .before .args in
     sym (p .loop .inv .1 ∙ starts-other (a .name .now) (a .s .now) (p .loop .i) (a .at + p .loop .i) (omega arith) (omega arith) (c .if2 .taken))
@@ -47,14 +47,14 @@ loop-less : tie.Need-loop-less Inv-loop μ-loop
 loop-less c = search needs
 
 loop-again : tie.Need-loop-again Inv-loop μ-loop
-loop-again c = 
+loop-again c =
     let p = c .before .before .before .before in
     let a = p .before .before .args in
     let e : a .at + (p .loop .i + 1) ≡ a .at + p .loop .i + 1 = omega arith in
     (omega arith, rw e (p .loop .inv .1 ∙ starts-same (a .name .now) (a .s .now) (p .loop .i) (a .at + p .loop .i) (omega arith) (omega arith) (c .if2 .left)))
 
 returns-3 : tie.Need-returns-3 Inv-loop μ-loop
-returns-3 c = 
+returns-3 c =
     let p = c .before in
     let a = p .before .before .args in
     sym (p .loop .inv .1 ∙ rw (drop-of-length-le (a .name .now) {i = p .loop .i} (omega arith)))

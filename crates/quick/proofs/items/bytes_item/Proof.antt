@@ -20,7 +20,7 @@ add-written-bytes-2 : tie.Need-add-written-bytes-2
 add-written-bytes-2 c = search needs
 
 written-bytes-requires : tie.Need-written-bytes-requires
-written-bytes-requires c κs = 
+written-bytes-requires c κs =
     let b = c .before .before in
     let st = b .before .before .before .before in
     let a = st .args in
@@ -31,14 +31,14 @@ same-length : tie.Need-same-length
 same-length c = search needs
 
 returns : tie.Need-returns
-returns c = 
+returns c =
     let w = c .before .before in
     let t = w .before .before in
     let a = t .before .before .before .before .before .args in
     rw (bytes-there (a .rule) (a .name .now) (a .mark) (a .s .now) (a .at) (sym (t .before .begins .ensures) ∙ t .if1 .taken)) (w .written-bytes .ensures)
 
 returns-2 : tie.Need-returns-2
-returns-2 c = 
+returns-2 c =
     let st = c .before .before .before .before .before in
     let a = st .args in
     bytes-none (a .rule) (a .name .now) (a .mark) (a .s .now) (a .at) (a .out .now) (a .from) (st .pre .0 .0) (sym (c .before .begins .ensures) ∙ c .if1 .left)

@@ -15,7 +15,7 @@ enum-known-next : tie.Need-enum-known-next
 enum-known-next c = search needs
 
 sub-n : tie.Need-sub-n
-sub-n c = 
+sub-n c =
     let k = c .before in
     let d = k .before .before .before .before in
     let h = rw (k .next .given .1) at (d .decode-run .ensures) in
@@ -26,7 +26,7 @@ same-length : tie.Need-same-length
 same-length c = search needs
 
 returns : tie.Need-returns
-returns c = 
+returns c =
     let k = c .before .before in
     let d = k .before .before .before .before in
     let h = rw (k .next .given .1) at (d .decode-run .ensures) in
@@ -41,7 +41,7 @@ same-length-2 : tie.Need-same-length-2
 same-length-2 c = search needs
 
 returns-2 : tie.Need-returns-2
-returns-2 c = 
+returns-2 c =
     let k = c .before .before .before .before in
     let d = k .before .before .before .before in
     let h = rw (k .next .given .1) at (d .decode-run .ensures) in
@@ -53,7 +53,7 @@ same-length-3 : tie.Need-same-length-3
 same-length-3 c = search needs
 
 returns-3 : tie.Need-returns-3
-returns-3 c = 
+returns-3 c =
     let d = c .before .before .before .before in
     let st = d .before .before .before .before in
     let a = st .args in
@@ -63,7 +63,7 @@ same-length-4 : tie.Need-same-length-4
 same-length-4 c = search needs
 
 returns-4 : tie.Need-returns-4
-returns-4 c = 
+returns-4 c =
     let k = c .before .before .before .before in
     let d = k .before .before .before .before in
     let h = rw (k .next .given .1) at (d .decode-run .ensures) in

@@ -21,14 +21,14 @@ is-written-requires : tie.Need-is-written-requires
 is-written-requires c κs = search needs
 
 returns : tie.Need-returns
-returns c = 
+returns c =
     let i = c .before .before .before in
     let k = i .before .before in
     let h = rw (k .n .given .1) at (k .before .before .number .ensures) in
     (number-written (k .before .before .before .before .args .rule) _ _ _ (h .0) (sym (i .in-range .ensures) ∙ c .before .before .if1 .taken) (sym (c .before .is-written .ensures) ∙ c .if2 .taken), h .1)
 
 returns-2 : tie.Need-returns-2
-returns-2 c = 
+returns-2 c =
     let i = c .before .before .before in
     let k = i .before .before in
     let h = rw (k .n .given .1) at (k .before .before .number .ensures) in
@@ -38,7 +38,7 @@ returns-3 : tie.Need-returns-3
 returns-3 c = rw (rw (c .enum-told .given .1) at (c .before .before .number .ensures))
 
 returns-4 : tie.Need-returns-4
-returns-4 c = 
+returns-4 c =
     let k = c .before .before .before in
     let h = rw (k .n .given .1) at (k .before .before .number .ensures) in
     number-outside (k .before .before .before .before .args .rule) _ _ _ (h .0) (sym (c .before .in-range .ensures) ∙ c .if1 .left)

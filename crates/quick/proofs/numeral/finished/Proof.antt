@@ -14,19 +14,19 @@ add-if3 : tie.Need-add-if3
 add-if3 c = search needs
 
 returns-2 : tie.Need-returns-2
-returns-2 c = 
+returns-2 c =
     let p = c .before .before .before in
     let st = p .before in
     numeral-zero (st .args .s .now) (st .args .at) _ _ (st .pre .0) (st .pre .1) (p .if1 .left) (c .before .if2 .taken) (c .if3 .taken)
 
 returns-3 : tie.Need-returns-3
-returns-3 c = 
+returns-3 c =
     let p = c .before .before .before in
     let st = p .before in
     numeral-zeros (st .args .s .now) (st .args .at) _ _ (st .pre .0) (st .pre .1) (p .if1 .left) (c .before .if2 .taken) (c .if3 .left)
 
 returns-4 : tie.Need-returns-4
-returns-4 c = 
+returns-4 c =
     let st = c .before .before .before .before in
     numeral-large (st .args .s .now) (st .args .at) _ _ (st .pre .0) (st .pre .1) (c .if4 .taken)
 
@@ -34,7 +34,7 @@ cast-t10 : tie.Need-cast-t10
 cast-t10 c = search needs
 
 returns-5 : tie.Need-returns-5
-returns-5 c = 
+returns-5 c =
     let p = c .before .before .before in
     let st = p .before in
     numeral-is (st .args .s .now) (st .args .at) _ _ (st .pre .0) (st .pre .1) (p .if1 .left) (c .before .if2 .left) (c .if4 .left)

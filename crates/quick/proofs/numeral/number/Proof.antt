@@ -24,7 +24,7 @@ shared-slice-read-c : tie.Need-shared-slice-read-c Inv-loop μ-loop
 shared-slice-read-c c = search needs
 
 finished-requires : tie.Need-finished-requires Inv-loop μ-loop
-finished-requires c κs = 
+finished-requires c κs =
     let p = c .before .before .before in
     let q = p .before in
     (q .if1 .left, counting-stop _ _ _ _ (p .loop .inv .1) (below-digits _ (c .if2 .taken)))
@@ -33,7 +33,7 @@ returns-2 : tie.Need-returns-2 Inv-loop μ-loop
 returns-2 c = search needs
 
 finished-requires-2 : tie.Need-finished-requires-2 Inv-loop μ-loop
-finished-requires-2 c κs = 
+finished-requires-2 c κs =
     let p = c .before .before .before .before in
     let q = p .before in
     (q .if1 .left, counting-stop _ _ _ _ (p .loop .inv .1) (above-digits _ (c .if3 .taken)))
@@ -42,7 +42,7 @@ returns-3 : tie.Need-returns-3 Inv-loop μ-loop
 returns-3 c = search needs
 
 returns-4 : tie.Need-returns-4 Inv-loop μ-loop
-returns-4 c = 
+returns-4 c =
     let e = c .before .before in
     let p = e .before .before .before in
     counting-large _ _ _ _ (p .loop .inv .1) (omega arith) (e .if2 .left) (c .before .if3 .left) (c .if4 .taken)
@@ -63,14 +63,14 @@ loop-less : tie.Need-loop-less Inv-loop μ-loop
 loop-less c = search needs
 
 loop-again : tie.Need-loop-again Inv-loop μ-loop
-loop-again c = 
+loop-again c =
     let l = c .before in
     let e = l .before .before in
     let p = e .before .before .before in
     (omega (arith, c .wide .ensures), rw (c .wide .ensures) (counting-digit _ _ _ _ (p .loop .inv .1) (omega arith) (e .if2 .left) (l .before .if3 .left)))
 
 finished-requires-3 : tie.Need-finished-requires-3 Inv-loop μ-loop
-finished-requires-3 c κs = 
+finished-requires-3 c κs =
     let p = c .before in
     (p .before .if1 .left, counting-end _ _ _ _ (p .loop .inv .1) (c .loop-test .left))
 

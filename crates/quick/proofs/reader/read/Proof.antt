@@ -24,7 +24,7 @@ returns : tie.Need-returns
 returns c = search needs
 
 returns-2 : tie.Need-returns-2
-returns-2 c = 
+returns-2 c =
     let k = c .before .before in
     let w = k .before .before .before in
     let h = rw (k .c .given .1) at (w .walk-in .ensures) in

@@ -27,14 +27,14 @@ slice-aggregate-store : tie.Need-slice-aggregate-store
 slice-aggregate-store c = search needs
 
 store-requires : tie.Need-store-requires
-store-requires c κs = 
+store-requires c κs =
     let k = c .before .before .before in
     let w = k .before .before .before in
     let h = rw (k .c .given .1) at (w .walk-in .ensures) in
     found-room _ _ _ _ h
 
 returns : tie.Need-returns
-returns c = 
+returns c =
     let t = c .before .before in
     let w = t .before .before .before in
     let a = w .before .before .before .before .args in
@@ -44,7 +44,7 @@ same-length : tie.Need-same-length
 same-length c = search needs
 
 returns-2 : tie.Need-returns-2
-returns-2 c = 
+returns-2 c =
     let r = c .before .before in
     let k = r .before .before .before .before in
     let w = k .before .before .before in

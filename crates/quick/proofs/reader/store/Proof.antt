@@ -33,7 +33,7 @@ same-length : tie.Need-same-length
 same-length c = search needs
 
 returns : tie.Need-returns
-returns c = 
+returns c =
     let t = c .before .before in
     let w = t .before .before .before in
     let a = w .before .before .before .before .before .before .before .before .args in
@@ -43,7 +43,7 @@ same-length-2 : tie.Need-same-length-2
 same-length-2 c = search needs
 
 returns-2 : tie.Need-returns-2
-returns-2 c = 
+returns-2 c =
     let w = c .before .before .before .before in
     let a = w .before .before .before .before .before .before .before .before .args in
     store-done (a .c) (a .out .now) (a .buf .now) (a .at) _ _ _ _ refl (w .write-text .ensures) (c .if1 .left)

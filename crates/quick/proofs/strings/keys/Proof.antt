@@ -22,7 +22,7 @@ slice-aggregate-bytes-item-2 : tie.Need-slice-aggregate-bytes-item-2
 slice-aggregate-bytes-item-2 c = search needs
 
 bytes-item-requires-2 : tie.Need-bytes-item-requires-2
-bytes-item-requires-2 c κs = 
+bytes-item-requires-2 c κs =
     let n = c .before .before .before in
     let b = n .before .before .before .before in
     let st = b .before .before .before .before .before in
@@ -40,7 +40,7 @@ same-length : tie.Need-same-length
 same-length c = search needs
 
 returns : tie.Need-returns
-returns c = 
+returns c =
     let b = c .before .before .before .before in
     let a = b .before .before .before .before .before .args in
     no-keyid (a .limits) (a .mark) (a .s .now) (a .at) (a .out .now) (rw (c .enum-told .given .1) at (b .bytes-item .ensures))
@@ -49,7 +49,7 @@ same-length-2 : tie.Need-same-length-2
 same-length-2 c = search needs
 
 returns-2 : tie.Need-returns-2
-returns-2 c = 
+returns-2 c =
     let d = c .before .before .before .before in
     let n = d .before .before .before .before in
     let b = n .before .before .before .before in
@@ -61,7 +61,7 @@ same-length-3 : tie.Need-same-length-3
 same-length-3 c = search needs
 
 returns-3 : tie.Need-returns-3
-returns-3 c = 
+returns-3 c =
     let l = c .before in
     let d = l .before .before .before .before in
     let n = d .before .before .before .before in

@@ -23,7 +23,7 @@ enum-known-fields : tie.Need-enum-known-fields
 enum-known-fields c = search needs
 
 with-strings-requires : tie.Need-with-strings-requires
-with-strings-requires c κs = 
+with-strings-requires c κs =
     let k = c .before .before in
     let h = k .before .before in
     let st = h .before .before .before .before .before in
@@ -31,7 +31,7 @@ with-strings-requires c κs =
     ((q .1, rw (h .before .limits-of .ensures) (omega (arith, roomy-two (st .args .id), st .pre .0 .1))), st .pre .1)
 
 returns-2 : tie.Need-returns-2
-returns-2 c = 
+returns-2 c =
     let h = c .before .before in
     after-none _ _ (h .before .before .if1 .left) _ (rw (c .enum-told .given .1) at (h .head-at .ensures))
 
@@ -39,7 +39,7 @@ same-length : tie.Need-same-length
 same-length c = search needs
 
 returns-3 : tie.Need-returns-3
-returns-3 c = 
+returns-3 c =
     let w = c .before .before in
     let k = w .before .before .before in
     let h = k .before .before in

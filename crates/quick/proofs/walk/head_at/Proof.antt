@@ -14,7 +14,7 @@ enum-known-version : tie.Need-enum-known-version
 enum-known-version c = search needs
 
 numbers-requires : tie.Need-numbers-requires
-numbers-requires c κs = 
+numbers-requires c κs =
     let k = c .before in
     (rw (k .version .given .1) at (k .before .before .version-item .ensures)) .1
 
@@ -22,7 +22,7 @@ returns : tie.Need-returns
 returns c = head-none _ _ _ (rw (c .enum-told .given .1) at (c .before .before .version-item .ensures))
 
 returns-2 : tie.Need-returns-2
-returns-2 c = 
+returns-2 c =
     let k = c .before .before in
     let st = k .before .before .before .before in
     let h = rw (k .version .given .1) at (k .before .before .version-item .ensures) in

@@ -20,7 +20,7 @@ slice-aggregate-number-item-2 : tie.Need-slice-aggregate-number-item-2
 slice-aggregate-number-item-2 c = search needs
 
 number-item-requires-2 : tie.Need-number-item-requires-2
-number-item-requires-2 c κs = 
+number-item-requires-2 c κs =
     let k = c .before .before in
     (rw (k .m .given .1) at (k .before .before .number-item .ensures)) .1
 
@@ -34,7 +34,7 @@ slice-aggregate-number-item-3 : tie.Need-slice-aggregate-number-item-3
 slice-aggregate-number-item-3 c = search needs
 
 number-item-requires-3 : tie.Need-number-item-requires-3
-number-item-requires-3 c κs = 
+number-item-requires-3 c κs =
     let k = c .before .before in
     (rw (k .t .given .1) at (k .before .before .number-item2 .ensures)) .1
 
@@ -45,7 +45,7 @@ enum-known-p : tie.Need-enum-known-p
 enum-known-p c = search needs
 
 returns : tie.Need-returns
-returns c = 
+returns c =
     let p = c .before .before in
     let t = p .before .before .before .before .before in
     let m = t .before .before .before .before .before in
@@ -58,13 +58,13 @@ returns-2 : tie.Need-returns-2
 returns-2 c = no-m _ _ _ _ (rw (c .enum-told .given .1) at (c .before .before .number-item .ensures))
 
 returns-3 : tie.Need-returns-3
-returns-3 c = 
+returns-3 c =
     let m = c .before .before .before .before .before in
     let h = rw (m .m .given .1) at (m .before .before .number-item .ensures) in
     no-t _ _ _ _ _ _ _ (h .0) (rw (c .enum-told2 .given .1) at (c .before .before .number-item2 .ensures))
 
 returns-4 : tie.Need-returns-4
-returns-4 c = 
+returns-4 c =
     let t = c .before .before .before .before .before in
     let m = t .before .before .before .before .before in
     let h = rw (m .m .given .1) at (m .before .before .number-item .ensures) in
@@ -72,7 +72,7 @@ returns-4 c =
     no-p _ _ _ _ _ _ _ (h .0) _ _ _ (i .0) (rw (c .enum-told3 .given .1) at (c .before .before .number-item3 .ensures))
 
 returns-5 : tie.Need-returns-5
-returns-5 c = 
+returns-5 c =
     let p = c .before .before in
     let t = p .before .before .before .before .before in
     let m = t .before .before .before .before .before in

@@ -27,13 +27,13 @@ allowed-requires : tie.Need-allowed-requires
 allowed-requires c κs = search needs
 
 returns : tie.Need-returns
-returns c = 
+returns c =
     let n = c .before .before in
     let st = n .before .before .before .before .before in
     version-none _ (st .args .s .now) (st .args .at) (sym (n .before .before .begins .ensures) ∙ n .before .if1 .taken) (rw (c .enum-told .given .1) at (n .number .ensures))
 
 returns-2 : tie.Need-returns-2
-returns-2 c = 
+returns-2 c =
     let k = c .before .before in
     let n = k .before .before in
     let st = n .before .before .before .before .before in
@@ -44,7 +44,7 @@ allowed-requires-2 : tie.Need-allowed-requires-2
 allowed-requires-2 c κs = search needs
 
 returns-3 : tie.Need-returns-3
-returns-3 c = 
+returns-3 c =
     let b = c .before .before in
     let st = b .before .before .before in
     rw (version-absent _ (st .args .s .now) (st .args .at) (sym (b .begins .ensures) ∙ c .before .if1 .left)) (c .allowed2 .ensures (st .args .s .now) (st .pre))

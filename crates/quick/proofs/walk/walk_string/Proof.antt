@@ -23,7 +23,7 @@ part-id-number-start : tie.Need-part-id-number-start
 part-id-number-start c = search needs
 
 part-id-number-end : tie.Need-part-id-number-end
-part-id-number-end c = 
+part-id-number-end c =
     let e = c .before .before .before in
     rw (c .next-at .ensures) (next-inside 36 (e .before .before .before .args .s .now) (e .if1 .left))
 
@@ -31,7 +31,7 @@ id-number-requires : tie.Need-id-number-requires
 id-number-requires c κs = search needs
 
 after-id-requires : tie.Need-after-id-requires
-after-id-requires c κs = 
+after-id-requires c κs =
     let n = c .before .before .before in
     let e = n .before .before .before in
     let st = e .before .before .before in
@@ -41,7 +41,7 @@ same-length : tie.Need-same-length
 same-length c = search needs
 
 returns-3 : tie.Need-returns-3
-returns-3 c = 
+returns-3 c =
     let a = c .before .before in
     let i = a .before .before in
     let n = i .before .before in

@@ -17,7 +17,7 @@ enum-known-next : tie.Need-enum-known-next
 enum-known-next c = search needs
 
 hashes-requires : tie.Need-hashes-requires
-hashes-requires c κs = 
+hashes-requires c κs =
     let n = c .before .before in
     let k = n .before .before .before .before in
     let st = k .before .before .before .before in
@@ -46,7 +46,7 @@ same-length : tie.Need-same-length
 same-length c = search needs
 
 returns : tie.Need-returns
-returns c = 
+returns c =
     let k = c .before .before .before .before in
     let a = k .before .before .before .before .args in
     no-keys (a .limits) (a .fields) (a .mark) (a .s .now) (a .at) (a .out .now) (rw (c .enum-told .given .1) at (k .keys .ensures))
@@ -55,7 +55,7 @@ same-length-2 : tie.Need-same-length-2
 same-length-2 c = search needs
 
 returns-2 : tie.Need-returns-2
-returns-2 c = 
+returns-2 c =
     let w = c .before .before .before .before in
     let n = w .before .before .before in
     let k = n .before .before .before .before in
@@ -67,7 +67,7 @@ same-length-3 : tie.Need-same-length-3
 same-length-3 c = search needs
 
 returns-3 : tie.Need-returns-3
-returns-3 c = 
+returns-3 c =
     let e = c .before .before in
     let w = e .before .before .before .before in
     let n = w .before .before .before in
