@@ -1,30 +1,20 @@
 //! Compares the library, through its C interface, with the plain rules of `reference.rs`.
 
+mod chance;
+mod fields;
+mod lent;
+mod library;
+mod mutations;
 mod reference;
 
+use chance::Rng;
+use fields::{any_good_fields, good_fields, numbers, push_to_limit, spell, Arguments, ID_NUMBERS, VERSIONS};
+use lent::Lent;
+use library::*;
+use mutations::{mutate, ALPHABET, NUMERALS};
 use reference::{Fields, IDS};
 use std::fmt::Debug;
 use std::process::exit;
-
-/// As in phc.h.
-const PHC_ROOM: usize = 265;
-const PHC_RECORD: usize = 20;
-
-type StringEntry = unsafe extern "C" fn(*const u8, usize, *mut u8, usize) -> u64;
-
-extern "C" {
-    fn phc_read(s: *const u8, s_len: usize, record: *mut u8, record_len: usize) -> u64;
-    fn phc_keyid(s: *const u8, s_len: usize, buf: *mut u8, buf_len: usize) -> u64;
-    fn phc_data(s: *const u8, s_len: usize, buf: *mut u8, buf_len: usize) -> u64;
-    fn phc_salt(s: *const u8, s_len: usize, buf: *mut u8, buf_len: usize) -> u64;
-    fn phc_output(s: *const u8, s_len: usize, buf: *mut u8, buf_len: usize) -> u64;
-    fn phc_write(
-        id: u8, has_version: u8, version: u32, m: u32, t: u32, p: u32,
-        keyid: *const u8, keyid_len: usize, data: *const u8, data_len: usize,
-        salt: *const u8, salt_len: usize, output: *const u8, output_len: usize,
-        buf: *mut u8, buf_len: usize,
-    ) -> u64;
-}
 
 const KNOWN: [(&str, u64); 16] = [
     ("$argon2i$m=120,t=5000,p=2$/LtFjH5rVL8", 0),
@@ -45,109 +35,7 @@ const KNOWN: [(&str, u64); 16] = [
     ("$pbkdf2s2$", 5),
 ];
 
-// Chance.
-
-/// Xorshift with a multiplied output.
-struct Rng(u64);
-
-impl Rng {
-    fn new(seed: u64) -> Rng {
-        // The state must not be 0.
-        Rng(seed ^ 0x9e37_79b9_7f4a_7c15 | 1 << 63)
-    }
-
-    fn next(&mut self) -> u64 {
-        self.0 ^= self.0 >> 12;
-        self.0 ^= self.0 << 25;
-        self.0 ^= self.0 >> 27;
-        self.0.wrapping_mul(0x2545_f491_4f6c_dd1d) >> 16
-    }
-
-    /// A number below n, which is not 0.
-    fn below(&mut self, n: usize) -> usize {
-        (self.next() % n as u64) as usize
-    }
-
-    /// True once in n.
-    fn once_in(&mut self, n: usize) -> bool {
-        self.below(n) == 0
-    }
-
-    fn pick<T: Clone>(&mut self, from: &[T]) -> T {
-        from[self.below(from.len())].clone()
-    }
-
-    fn bytes(&mut self, len: usize) -> Vec<u8> {
-        (0..len).map(|_| self.next() as u8).collect()
-    }
-}
-
-// Lent memory.
-
-const GUARD: usize = 16;
-
-/// A slice to lend, with guard bytes before and after it.
-struct Lent {
-    memory: Vec<u8>,
-    len: usize,
-    null: bool,
-}
-
-impl Lent {
-    fn new(rng: &mut Rng, content: &[u8]) -> Lent {
-        let mut memory = rng.bytes(GUARD);
-        memory.extend_from_slice(content);
-        memory.extend(rng.bytes(GUARD));
-        Lent { memory, len: content.len(), null: content.is_empty() && rng.once_in(2) }
-    }
-
-    fn room(rng: &mut Rng, room: usize) -> Lent {
-        let content = rng.bytes(room);
-        Lent::new(rng, &content)
-    }
-
-    fn ptr(&mut self) -> *mut u8 {
-        if self.null {
-            return std::ptr::null_mut();
-        }
-        self.memory[GUARD..].as_mut_ptr()
-    }
-
-    /// The whole memory as it must be once these bytes are written from the slice's start.
-    fn with(&self, bytes: &[u8]) -> Vec<u8> {
-        let mut memory = self.memory.clone();
-        memory[GUARD..GUARD + bytes.len()].copy_from_slice(bytes);
-        memory
-    }
-}
-
 // Comparison.
-
-/// The writer's arguments, as the C interface takes them.
-#[derive(Clone, Debug)]
-struct Arguments {
-    has_version: u8,
-    version: u32,
-    /// All but the version.
-    fields: Fields,
-}
-
-impl Arguments {
-    fn of(fields: &Fields) -> Arguments {
-        let (has_version, version) = (u8::from(fields.version.is_some()), fields.version.unwrap_or(0));
-        Arguments { has_version, version, fields: fields.clone() }
-    }
-
-    fn meaning(&self) -> Fields {
-        let version = match self.has_version {
-            0 => None,
-            1 => Some(self.version),
-            // Refused as a version that no profile permits.
-            _ => Some(u32::MAX),
-        };
-        Fields { version, ..self.fields.clone() }
-    }
-}
 
 struct Run {
     seed: u64,
@@ -285,118 +173,6 @@ fn some_room(rng: &mut Rng, needed: usize) -> usize {
 
 // Fields.
 
-const VERSIONS: [u32; 10] = [0, 1, 15, 16, 17, 18, 19, 20, u32::MAX - 1, u32::MAX];
-const ID_NUMBERS: [u8; 9] = [0, 1, 2, 3, 4, 5, 6, 7, 255];
-
-fn is_argon2(id: u8) -> bool {
-    (1..=3).contains(&id)
-}
-
-fn good_fields(rng: &mut Rng, id: u8) -> Fields {
-    let limits = reference::limits(id).unwrap();
-    let argon2 = is_argon2(id);
-    let any_p = 1 + rng.below(255) as u32;
-    let p = if argon2 { rng.pick(&[1, 2, 254, 255, any_p]) } else { 0 };
-    let m_low = if argon2 { 8 * p } else { 0 };
-    let m_high = if argon2 { u32::MAX } else { 0 };
-    // Each count of digits comes up.
-    let wide = |rng: &mut Rng, low: u32, high: u32| (rng.next() as u32 >> rng.below(32)).clamp(low, high);
-    let m = wide(rng, m_low, m_high);
-    let t = match (rng.below(3), limits.t_omitted) {
-        (0, Some(t)) => t,
-        (1, Some(t)) => t - 1 + rng.below(3) as u32,
-        _ => wide(rng, *limits.t.start(), *limits.t.end()),
-    };
-    let version = if limits.versions.is_empty() || rng.once_in(3) { None } else { Some(rng.pick(limits.versions)) };
-    let some = |rng: &mut Rng, range: &std::ops::RangeInclusive<usize>| {
-        let len = range.start() + rng.below(range.end() - range.start() + 1);
-        let len = rng.pick(&[*range.start(), *range.end(), len, len]);
-        rng.bytes(len)
-    };
-    let (keyid, data) = (some(rng, &limits.keyid), some(rng, &limits.data));
-    let (mut salt, mut output) = (some(rng, &limits.salt), some(rng, &limits.output));
-    match rng.below(5) {
-        0 => (salt, output) = (vec![], vec![]),
-        1 => output = vec![],
-        _ => {}
-    }
-    Fields { id, version, m, t, p, keyid, data, salt, output }
-}
-
-fn any_good_fields(rng: &mut Rng) -> Fields {
-    let id = 1 + rng.below(5) as u8;
-    good_fields(rng, id)
-}
-
-fn numbers(p: u32) -> Vec<u32> {
-    let mut all = vec![0, 1, 2, 7, 8, 9, 99, 100, 101, 254, 255, 256, 19_999, 20_000, 20_001, u32::MAX - 1, u32::MAX];
-    // 8p as it is, and as a product that wraps would have it.
-    let eight = p.wrapping_mul(8);
-    all.extend([eight.wrapping_sub(1), eight, eight.wrapping_add(1)]);
-    all
-}
-
-/// Changes one field to a value at, near or past a limit.
-fn push_to_limit(rng: &mut Rng, a: &mut Arguments) {
-    let near = |rng: &mut Rng, limits: &[usize]| {
-        let len = rng.pick(limits) + rng.below(3);
-        rng.bytes(len.saturating_sub(1))
-    };
-    let f = &mut a.fields;
-    match rng.below(10) {
-        0 => f.id = rng.pick(&ID_NUMBERS),
-        1 => a.has_version = rng.pick(&[0, 1, 1, 2, 255]),
-        2 => (a.has_version, a.version) = (1, rng.pick(&VERSIONS)),
-        3 => f.m = rng.pick(&numbers(f.p)),
-        4 => f.t = rng.pick(&numbers(0)),
-        5 => f.p = rng.pick(&[0, 1, 2, 254, 255, 256, 1 << 29, (1 << 29) + 1, u32::MAX]),
-        6 => f.keyid = near(rng, &[0, 1, 8]),
-        7 => f.data = near(rng, &[0, 1, 32]),
-        8 => f.salt = near(rng, &[0, 4, 8, 32, 48]),
-        _ => f.output = near(rng, &[0, 12, 64, 96]),
-    }
-}
-
-/// The fields spelled as they stand, permitted or not.
-fn spell(a: &Arguments) -> Vec<u8> {
-    let f = &a.fields;
-    let id = match f.id {
-        1..=5 => IDS[usize::from(f.id) - 1],
-        0 => "",
-        6 => "argon2",
-        7 => "pbkdf2s4",
-        _ => "scrypt",
-    };
-    let mut s = format!("${id}").into_bytes();
-    if a.has_version != 0 {
-        s.extend(format!("$v={}", a.version).bytes());
-    }
-    let mut items: Vec<Vec<u8>> = Vec::new();
-    for (name, n) in [("m", f.m), ("t", f.t), ("p", f.p)] {
-        // In pbkdf2 m and p have no place, and t=20000 is for the mutations.
-        let shown = is_argon2(f.id) || if name == "t" { n != 20_000 } else { n != 0 };
-        if shown {
-            items.push(format!("{name}={n}").into_bytes());
-        }
-    }
-    for (name, bytes) in [("keyid=", &f.keyid), ("data=", &f.data)] {
-        if !bytes.is_empty() {
-            items.push([name.as_bytes(), &reference::b64_encode(bytes)].concat());
-        }
-    }
-    if !items.is_empty() {
-        s.push(b'$');
-        s.extend(items.join(&b','));
-    }
-    for bytes in [&f.salt, &f.output] {
-        if !bytes.is_empty() {
-            s.push(b'$');
-            s.extend(reference::b64_encode(bytes));
-        }
-    }
-    s
-}
-
 fn both_ways(run: &mut Run, a: &Arguments) {
     run.compare_fields(a);
     run.compare_string(&spell(a));
@@ -520,88 +296,6 @@ fn grammar_limits(run: &mut Run) {
 }
 
 // Mutations.
-
-const ALPHABET: &[u8] = b"$$$$==,,,vmtpkeyidatargon2pbkdf2s3idABab0123456789+/.-";
-
-const NUMERALS: [&str; 22] = [
-    "", "0", "00", "-", "-0", "-1", "+1", "1", "01", "16", "19", "019", "19 ", "99", "100", "20000", "020000", "4294967295", "4294967296",
-    "9223372036854775808", "18446744073709551617", "340282366920938463463374607431768211457",
-];
-
-/// Splits at a byte, changes the list of parts, joins again.
-fn in_parts(rng: &mut Rng, s: &[u8], by: u8) -> Vec<u8> {
-    let mut parts: Vec<Vec<u8>> = s.split(|c| *c == by).map(<[u8]>::to_vec).collect();
-    let (a, b) = (rng.below(parts.len()), rng.below(parts.len()));
-    match rng.below(5) {
-        0 => parts.swap(a, b),
-        1 => parts.insert(b, parts[a].clone()),
-        2 => drop(parts.remove(a)),
-        3 => parts.truncate(a + 1),
-        _ => parts[b] = parts[a].clone(),
-    }
-    parts.join(&by)
-}
-
-/// Changes the items of one piece that has some.
-fn in_items(rng: &mut Rng, s: &[u8]) -> Vec<u8> {
-    let mut parts: Vec<Vec<u8>> = s.split(|c| *c == b'$').map(<[u8]>::to_vec).collect();
-    if let Some(piece) = parts.iter_mut().find(|piece| piece.contains(&b',')) {
-        *piece = in_parts(rng, piece, b',');
-    }
-    parts.join(&b'$')
-}
-
-/// Puts another numeral in place of one after an `=`.
-fn in_numeral(rng: &mut Rng, s: &[u8]) -> Vec<u8> {
-    let starts: Vec<usize> = (1..=s.len()).filter(|i| s[i - 1] == b'=').collect();
-    if starts.is_empty() {
-        return s.to_vec();
-    }
-    let start = rng.pick(&starts);
-    let end = start + s[start..].iter().take_while(|c| c.is_ascii_digit()).count();
-    [&s[..start], rng.pick(&NUMERALS).as_bytes(), &s[end..]].concat()
-}
-
-/// Changes the last character of a piece or item, where the unused bits are.
-fn in_last_character(rng: &mut Rng, s: &[u8]) -> Vec<u8> {
-    let ends: Vec<usize> = (1..=s.len()).filter(|i| *i == s.len() || matches!(s[*i], b'$' | b',')).collect();
-    let mut s = s.to_vec();
-    if let Some(end) = ends.get(rng.below(ends.len().max(1))) {
-        s[end - 1] = rng.pick(b"AQgwEIMUYcBCDPR/+.-");
-    }
-    s
-}
-
-fn mutate(rng: &mut Rng, s: &[u8], other: &[u8]) -> Vec<u8> {
-    let mut s = s.to_vec();
-    let place = rng.below(s.len() + 1);
-    let byte = if rng.once_in(4) { rng.next() as u8 } else { rng.pick(ALPHABET) };
-    match rng.below(12) {
-        0 if place < s.len() => s[place] = byte,
-        1 if place < s.len() => s[place] ^= 1 << rng.below(8),
-        2 => s.insert(place, byte),
-        3 if place < s.len() => drop(s.remove(place)),
-        4 => s.truncate(place),
-        5 => s.extend(rng.pick(&["$", "$AAAA", "$AAAAAAAAAAAAAAAA", "A", "=", ","]).bytes()),
-        6 => {
-            let from = rng.below(other.len() + 1);
-            s.truncate(place);
-            s.extend(&other[from..]);
-        }
-        7 => {
-            // Joined where pieces meet.
-            let cuts = |s: &[u8]| -> Vec<usize> { (0..=s.len()).filter(|i| *i == s.len() || s[*i] == b'$').collect() };
-            s.truncate(rng.pick(&cuts(&s)));
-            s.extend(&other[rng.pick(&cuts(other))..]);
-        }
-        8 => s = in_parts(rng, &s, b'$'),
-        9 => s = in_items(rng, &s),
-        10 => s = in_numeral(rng, &s),
-        11 => s = in_last_character(rng, &s),
-        _ => {}
-    }
-    s
-}
 
 fn mutations(run: &mut Run) {
     for _ in 0..150_000 {
