@@ -13,7 +13,9 @@ use lent::Lent;
 use library::*;
 use mutations::{mutate, ALPHABET, NUMERALS};
 use reference::{Fields, IDS};
+use std::collections::{HashMap, HashSet};
 use std::fmt::Debug;
+use std::ops::RangeInclusive;
 use std::process::exit;
 
 const KNOWN: [(&str, u64); 16] = [
@@ -42,10 +44,12 @@ struct Run {
     rng: Rng,
     cases: u64,
     read: u64,
+    good: u64,
     written: u64,
     longest: usize,
     /// Answers seen, by number.
     reader_numbers: [u64; 18],
+    read_all_numbers: [u64; 18],
     writer_numbers: [u64; 18],
 }
 
@@ -80,18 +84,39 @@ impl Run {
         self.same(&format!("{name}'s string and its guards"), &input, &string.memory, &string_after);
     }
 
-    /// The reader and the four byte strings, with rooms of the caller's choice from what is needed.
+    /// The same for the one call that takes a record and a buffer.
+    fn read_all_entry(&mut self, s: &[u8], record_room: usize, buffer_room: usize, expected: &Result<(u8, Fields), u8>) {
+        let mut string = Lent::new(&mut self.rng, s);
+        let (mut record, mut buffer) = (Lent::room(&mut self.rng, record_room), Lent::room(&mut self.rng, buffer_room));
+        let string_after = string.memory.clone();
+        let given_back = expected.as_ref().map_err(|n| *n).and_then(|(kind, f)| {
+            let record = reference::fit(record_all_bytes(*kind, f), record_room)?;
+            Ok((record, reference::fit(byte_strings(f).concat(), buffer_room)?))
+        });
+        let (answer, record_after, buffer_after) = match given_back {
+            Ok((fields, bytes)) => (0, record.with(&fields), buffer.with(&bytes)),
+            Err(number) => (number, record.memory.clone(), buffer.memory.clone()),
+        };
+        // SAFETY: the slices are whole and apart; NULL goes with the length 0 only.
+        let given = unsafe { phc_read_all(string.ptr(), string.len, record.ptr(), record.len, buffer.ptr(), buffer.len) };
+        let input = || format!("\"{}\" with room {record_room} for the record and {buffer_room} for the bytes", s.escape_ascii());
+        self.same("phc_read_all", &input, &given, &u64::from(answer));
+        self.same("phc_read_all's record and its guards", &input, &record.memory, &record_after);
+        self.same("phc_read_all's buffer and its guards", &input, &buffer.memory, &buffer_after);
+        self.same("phc_read_all's string and its guards", &input, &string.memory, &string_after);
+        self.read_all_numbers[usize::from(answer)] += 1;
+    }
+
+    /// The reader, the four byte strings and all in one call, with rooms of the caller's choice from what is needed.
     fn compare_rooms(&mut self, s: &[u8], choose: &mut dyn FnMut(&mut Rng, usize) -> usize) {
         let expected = reference::read(s);
-        let record = expected.as_ref().map(|(kind, f)| {
-            let mut record = vec![*kind, f.id, u8::from(f.version.is_some()), 0];
-            for n in [f.version.unwrap_or(0), f.m, f.t, f.p] {
-                record.extend(n.to_le_bytes());
-            }
-            record
-        });
+        let record = expected.as_ref().map(|(kind, f)| record_bytes(*kind, f));
         let room = choose(&mut self.rng, PHC_RECORD);
         self.string_entry("phc_read", phc_read, s, room, record.map_err(|n| *n), 0);
+
+        let needed = expected.as_ref().map_or(0, |(_, f)| byte_strings(f).concat().len());
+        let (record_room, buffer_room) = (choose(&mut self.rng, PHC_RECORD_ALL), choose(&mut self.rng, needed));
+        self.read_all_entry(s, record_room, buffer_room, &expected);
 
         let parts: [(&str, StringEntry, fn(&Fields) -> &Vec<u8>); 4] = [
             ("phc_keyid", phc_keyid, |f| &f.keyid),
@@ -159,6 +184,28 @@ impl Run {
             self.same("the reference's own way forth", &|| format!("{arguments:?}"), &Ok(arguments.meaning()), &fields);
         }
     }
+}
+
+fn byte_strings(f: &Fields) -> [&[u8]; 4] {
+    [&f.keyid, &f.data, &f.salt, &f.output]
+}
+
+/// The record of phc_read.
+fn record_bytes(kind: u8, f: &Fields) -> Vec<u8> {
+    let mut record = vec![kind, f.id, u8::from(f.version.is_some()), 0];
+    for n in [f.version.unwrap_or(0), f.m, f.t, f.p] {
+        record.extend(n.to_le_bytes());
+    }
+    record
+}
+
+/// The record of phc_read_all.
+fn record_all_bytes(kind: u8, f: &Fields) -> Vec<u8> {
+    let mut record = record_bytes(kind, f);
+    for bytes in byte_strings(f) {
+        record.extend((bytes.len() as u32).to_le_bytes());
+    }
+    record
 }
 
 /// Mostly enough, now and then one short, or anything.
@@ -330,7 +377,91 @@ fn random(run: &mut Run) {
     }
 }
 
+// Good strings.
+
+const GOOD: u64 = 1_000_000;
+
+/// Every one is accepted, and carries the fields that it was written from.
+fn good_strings(run: &mut Run) {
+    let mut shapes: HashMap<_, u64> = HashMap::new();
+    let mut sizes = HashSet::new();
+    for round in 0..GOOD {
+        let fields = good_fields(&mut run.rng, 1 + (round % 5) as u8);
+        let s = reference::write(&fields).unwrap();
+        let kind = match (fields.salt.is_empty(), fields.output.is_empty()) {
+            (true, _) => 1,
+            (_, true) => 2,
+            _ => 3,
+        };
+        let needed = byte_strings(&fields).concat().len();
+        let (record_room, buffer_room) = if round % 2 == 0 { (PHC_RECORD_ALL, needed) } else { (PHC_RECORD_ALL + 4, PHC_BYTES) };
+
+        // Which parts are there.
+        let omitted = reference::limits(fields.id).unwrap().t_omitted == Some(fields.t);
+        let shape = (fields.id, fields.version, omitted, fields.keyid.is_empty(), fields.data.is_empty(), kind);
+        *shapes.entry(shape).or_default() += 1;
+        sizes.extend(sizes_of(&fields));
+
+        run.string_entry("phc_read", phc_read, &s, PHC_RECORD, Ok(record_bytes(kind, &fields)), 0);
+        run.read_all_entry(&s, record_room, buffer_room, &Ok((kind, fields)));
+        run.good += 1;
+    }
+
+    // Versions, keyid, data and kinds of the three ids of Argon2; t, keyid and kinds of the two of pbkdf2.
+    assert_eq!(shapes.len(), 3 * (3 * 2 * 2 * 3) + 2 * (2 * 2 * 3), "the shapes of good strings");
+    assert!(shapes.values().all(|n| *n > 300), "a shape of good strings came up too seldom");
+    for id in 1..=5 {
+        let limits = reference::limits(id).unwrap();
+        let digits = |range: &RangeInclusive<u32>| range.start().to_string().len()..=range.end().to_string().len();
+        let ranges = [
+            ("keyid", limits.keyid.clone()),
+            ("data", limits.data.clone()),
+            ("salt", limits.salt.clone()),
+            ("output", limits.output.clone()),
+            ("digits of m", digits(&limits.m)),
+            ("digits of t", digits(&limits.t)),
+            ("digits of p", digits(&limits.p)),
+        ];
+        for (what, range) in ranges {
+            for size in range {
+                assert!(sizes.contains(&(id, what, size)), "{}: {size} never came up for {what}", IDS[usize::from(id) - 1]);
+            }
+        }
+    }
+}
+
+fn sizes_of(f: &Fields) -> [(u8, &'static str, usize); 7] {
+    let digits = |n: u32| n.to_string().len();
+    [
+        (f.id, "keyid", f.keyid.len()),
+        (f.id, "data", f.data.len()),
+        (f.id, "salt", f.salt.len()),
+        (f.id, "output", f.output.len()),
+        (f.id, "digits of m", digits(f.m)),
+        (f.id, "digits of t", digits(f.t)),
+        (f.id, "digits of p", digits(f.p)),
+    ]
+}
+
 // Buffers.
+
+/// Each of the two buffers of phc_read_all at every size, beside some of the other's.
+fn two_buffers(run: &mut Run, s: &[u8]) {
+    let expected = reference::read(s);
+    let needed = expected.as_ref().map_or(0, |(_, f)| byte_strings(f).concat().len());
+    for record_room in 0..PHC_RECORD_ALL + 8 {
+        for buffer_room in [0, needed.saturating_sub(1), needed, needed + 1, PHC_BYTES] {
+            run.read_all_entry(s, record_room, buffer_room, &expected);
+            run.cases += 1;
+        }
+    }
+    for buffer_room in 0..needed + 20 {
+        for record_room in [0, PHC_RECORD, PHC_RECORD_ALL - 1, PHC_RECORD_ALL, PHC_RECORD_ALL + 1] {
+            run.read_all_entry(s, record_room, buffer_room, &expected);
+            run.cases += 1;
+        }
+    }
+}
 
 fn buffers(run: &mut Run) {
     for round in 0..40 {
@@ -343,16 +474,19 @@ fn buffers(run: &mut Run) {
         for room in 0..84 {
             run.compare_rooms(&s, &mut |_, _| room);
         }
+        two_buffers(run, &s);
     }
     // Refusals keep their number, whatever the room.
     for (s, _) in KNOWN {
         for room in 0..30 {
             run.compare_rooms(s.as_bytes(), &mut |_, _| room);
         }
+        two_buffers(run, s.as_bytes());
     }
     // Often enough that each empty slice comes both as NULL and otherwise.
     for _ in 0..200 {
         run.compare_rooms(b"", &mut |_, _| 0);
+        run.compare_rooms(b"$pbkdf2s2", &mut |_, needed| needed);
         let empty = Fields { id: 4, version: None, m: 0, t: 100, p: 0, keyid: vec![], data: vec![], salt: vec![], output: vec![] };
         run.write_entry(&Arguments::of(&empty), 0).ok();
         run.write_entry(&Arguments::of(&empty), PHC_ROOM).ok();
@@ -383,8 +517,18 @@ fn main() {
     };
     println!("seed {seed}");
     let rng = Rng::new(seed);
-    let mut run =
-        Run { seed, rng, cases: 0, read: 0, written: 0, longest: 0, reader_numbers: [0; 18], writer_numbers: [0; 18] };
+    let mut run = Run {
+        seed,
+        rng,
+        cases: 0,
+        read: 0,
+        good: 0,
+        written: 0,
+        longest: 0,
+        reader_numbers: [0; 18],
+        read_all_numbers: [0; 18],
+        writer_numbers: [0; 18],
+    };
 
     known(&mut run);
     generated(&mut run);
@@ -392,13 +536,18 @@ fn main() {
     mutations(&mut run);
     random(&mut run);
     buffers(&mut run);
+    good_strings(&mut run);
 
     println!("{} cases compared, {} accepted by the reader, {} by the writer", run.cases, run.read, run.written);
+    println!("{} good strings more, all accepted", run.good);
 
     // A run that leaves a rule out shows nothing of it.
-    assert!(run.cases >= 300_000 && run.read > 20_000 && run.written > 20_000, "too few cases");
+    assert!(run.cases >= 300_000 && run.read > 20_000 && run.written > 20_000 && run.good >= GOOD, "too few cases");
     for row in 0..=15 {
         assert!(run.reader_numbers[row] > 100, "the reader's number {row} came up too seldom");
+    }
+    for row in (0..=15).chain([17]) {
+        assert!(run.read_all_numbers[row] > 100, "the number {row} of phc_read_all came up too seldom");
     }
     for row in [0, 8, 9, 11, 12, 14, 15, 16, 17] {
         assert!(run.writer_numbers[row] > 100, "the writer's number {row} came up too seldom");
