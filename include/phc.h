@@ -16,8 +16,12 @@ extern "C" {
 /* The bytes that every string of these profiles fits. */
 #define PHC_ROOM 265
 
-/* The bytes of a record. */
+/* The bytes of a record, and of one with the four counts after it. */
 #define PHC_RECORD 20
+#define PHC_RECORD_ALL 36
+
+/* The most bytes that the four byte strings of a string have together. */
+#define PHC_BYTES 152
 
 /* Reads a string. 0, and the first 20 bytes of the record are
  *     kind (1 parameters, 2 salt, 3 hash), id (1 to 5 in the order above), 1 where a version is written and else 0, 0,
@@ -31,6 +35,13 @@ uint64_t phc_keyid(const uint8_t *s, size_t s_len, uint8_t *buf, size_t buf_len)
 uint64_t phc_data(const uint8_t *s, size_t s_len, uint8_t *buf, size_t buf_len);
 uint64_t phc_salt(const uint8_t *s, size_t s_len, uint8_t *buf, size_t buf_len);
 uint64_t phc_output(const uint8_t *s, size_t s_len, uint8_t *buf, size_t buf_len);
+
+/* Reads a string and decodes its byte strings in one call, for a login. 0, and the first 36 bytes of the record are
+ *     the 20 of phc_read, then the counts of keyid, data, salt and output (0 where one is absent): 32-bit little-endian numbers;
+ * and keyid, data, salt and output stand one after the other from the buffer's start.
+ * Else 1 to 15, then 17 where the record has fewer than 36 bytes or the byte strings don't fit the buffer. 152 bytes are always enough.
+ * Record and buffer mean nothing unless 0 came back. */
+uint64_t phc_read_all(const uint8_t *s, size_t s_len, uint8_t *record, size_t record_len, uint8_t *buf, size_t buf_len);
 
 /* Writes the one string of the fields into the buffer from its start: a hundred times the count, or 8, 9, 11, 12, 14, 15, 16, then 17.
  * has_version 0: no version, whatever `version` is; 1: that version; any other is 9. An empty salt or output is one that isn't there.

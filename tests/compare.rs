@@ -1,30 +1,22 @@
 //! Compares the library, through its C interface, with the plain rules of `reference.rs`.
 
+mod chance;
+mod fields;
+mod lent;
+mod library;
+mod mutations;
 mod reference;
 
+use chance::Rng;
+use fields::{any_good_fields, good_fields, numbers, push_to_limit, spell, Arguments, ID_NUMBERS, VERSIONS};
+use lent::Lent;
+use library::*;
+use mutations::{mutate, ALPHABET, NUMERALS};
 use reference::{Fields, IDS};
+use std::collections::{HashMap, HashSet};
 use std::fmt::Debug;
+use std::ops::RangeInclusive;
 use std::process::exit;
-
-/// As in phc.h.
-const PHC_ROOM: usize = 265;
-const PHC_RECORD: usize = 20;
-
-type StringEntry = unsafe extern "C" fn(*const u8, usize, *mut u8, usize) -> u64;
-
-extern "C" {
-    fn phc_read(s: *const u8, s_len: usize, record: *mut u8, record_len: usize) -> u64;
-    fn phc_keyid(s: *const u8, s_len: usize, buf: *mut u8, buf_len: usize) -> u64;
-    fn phc_data(s: *const u8, s_len: usize, buf: *mut u8, buf_len: usize) -> u64;
-    fn phc_salt(s: *const u8, s_len: usize, buf: *mut u8, buf_len: usize) -> u64;
-    fn phc_output(s: *const u8, s_len: usize, buf: *mut u8, buf_len: usize) -> u64;
-    fn phc_write(
-        id: u8, has_version: u8, version: u32, m: u32, t: u32, p: u32,
-        keyid: *const u8, keyid_len: usize, data: *const u8, data_len: usize,
-        salt: *const u8, salt_len: usize, output: *const u8, output_len: usize,
-        buf: *mut u8, buf_len: usize,
-    ) -> u64;
-}
 
 const KNOWN: [(&str, u64); 16] = [
     ("$argon2i$m=120,t=5000,p=2$/LtFjH5rVL8", 0),
@@ -45,119 +37,19 @@ const KNOWN: [(&str, u64); 16] = [
     ("$pbkdf2s2$", 5),
 ];
 
-// Chance.
-
-/// Xorshift with a multiplied output.
-struct Rng(u64);
-
-impl Rng {
-    fn new(seed: u64) -> Rng {
-        // The state must not be 0.
-        Rng(seed ^ 0x9e37_79b9_7f4a_7c15 | 1 << 63)
-    }
-
-    fn next(&mut self) -> u64 {
-        self.0 ^= self.0 >> 12;
-        self.0 ^= self.0 << 25;
-        self.0 ^= self.0 >> 27;
-        self.0.wrapping_mul(0x2545_f491_4f6c_dd1d) >> 16
-    }
-
-    /// A number below n, which is not 0.
-    fn below(&mut self, n: usize) -> usize {
-        (self.next() % n as u64) as usize
-    }
-
-    /// True once in n.
-    fn once_in(&mut self, n: usize) -> bool {
-        self.below(n) == 0
-    }
-
-    fn pick<T: Clone>(&mut self, from: &[T]) -> T {
-        from[self.below(from.len())].clone()
-    }
-
-    fn bytes(&mut self, len: usize) -> Vec<u8> {
-        (0..len).map(|_| self.next() as u8).collect()
-    }
-}
-
-// Lent memory.
-
-const GUARD: usize = 16;
-
-/// A slice to lend, with guard bytes before and after it.
-struct Lent {
-    memory: Vec<u8>,
-    len: usize,
-    null: bool,
-}
-
-impl Lent {
-    fn new(rng: &mut Rng, content: &[u8]) -> Lent {
-        let mut memory = rng.bytes(GUARD);
-        memory.extend_from_slice(content);
-        memory.extend(rng.bytes(GUARD));
-        Lent { memory, len: content.len(), null: content.is_empty() && rng.once_in(2) }
-    }
-
-    fn room(rng: &mut Rng, room: usize) -> Lent {
-        let content = rng.bytes(room);
-        Lent::new(rng, &content)
-    }
-
-    fn ptr(&mut self) -> *mut u8 {
-        if self.null {
-            return std::ptr::null_mut();
-        }
-        self.memory[GUARD..].as_mut_ptr()
-    }
-
-    /// The whole memory as it must be once these bytes are written from the slice's start.
-    fn with(&self, bytes: &[u8]) -> Vec<u8> {
-        let mut memory = self.memory.clone();
-        memory[GUARD..GUARD + bytes.len()].copy_from_slice(bytes);
-        memory
-    }
-}
-
 // Comparison.
-
-/// The writer's arguments, as the C interface takes them.
-#[derive(Clone, Debug)]
-struct Arguments {
-    has_version: u8,
-    version: u32,
-    /// All but the version.
-    fields: Fields,
-}
-
-impl Arguments {
-    fn of(fields: &Fields) -> Arguments {
-        let (has_version, version) = (u8::from(fields.version.is_some()), fields.version.unwrap_or(0));
-        Arguments { has_version, version, fields: fields.clone() }
-    }
-
-    fn meaning(&self) -> Fields {
-        let version = match self.has_version {
-            0 => None,
-            1 => Some(self.version),
-            // Refused as a version that no profile permits.
-            _ => Some(u32::MAX),
-        };
-        Fields { version, ..self.fields.clone() }
-    }
-}
 
 struct Run {
     seed: u64,
     rng: Rng,
     cases: u64,
     read: u64,
+    good: u64,
     written: u64,
     longest: usize,
     /// Answers seen, by number.
     reader_numbers: [u64; 18],
+    read_all_numbers: [u64; 18],
     writer_numbers: [u64; 18],
 }
 
@@ -192,18 +84,39 @@ impl Run {
         self.same(&format!("{name}'s string and its guards"), &input, &string.memory, &string_after);
     }
 
-    /// The reader and the four byte strings, with rooms of the caller's choice from what is needed.
+    /// The same for the one call that takes a record and a buffer.
+    fn read_all_entry(&mut self, s: &[u8], record_room: usize, buffer_room: usize, expected: &Result<(u8, Fields), u8>) {
+        let mut string = Lent::new(&mut self.rng, s);
+        let (mut record, mut buffer) = (Lent::room(&mut self.rng, record_room), Lent::room(&mut self.rng, buffer_room));
+        let string_after = string.memory.clone();
+        let given_back = expected.as_ref().map_err(|n| *n).and_then(|(kind, f)| {
+            let record = reference::fit(record_all_bytes(*kind, f), record_room)?;
+            Ok((record, reference::fit(byte_strings(f).concat(), buffer_room)?))
+        });
+        let (answer, record_after, buffer_after) = match given_back {
+            Ok((fields, bytes)) => (0, record.with(&fields), buffer.with(&bytes)),
+            Err(number) => (number, record.memory.clone(), buffer.memory.clone()),
+        };
+        // SAFETY: the slices are whole and apart; NULL goes with the length 0 only.
+        let given = unsafe { phc_read_all(string.ptr(), string.len, record.ptr(), record.len, buffer.ptr(), buffer.len) };
+        let input = || format!("\"{}\" with room {record_room} for the record and {buffer_room} for the bytes", s.escape_ascii());
+        self.same("phc_read_all", &input, &given, &u64::from(answer));
+        self.same("phc_read_all's record and its guards", &input, &record.memory, &record_after);
+        self.same("phc_read_all's buffer and its guards", &input, &buffer.memory, &buffer_after);
+        self.same("phc_read_all's string and its guards", &input, &string.memory, &string_after);
+        self.read_all_numbers[usize::from(answer)] += 1;
+    }
+
+    /// The reader, the four byte strings and all in one call, with rooms of the caller's choice from what is needed.
     fn compare_rooms(&mut self, s: &[u8], choose: &mut dyn FnMut(&mut Rng, usize) -> usize) {
         let expected = reference::read(s);
-        let record = expected.as_ref().map(|(kind, f)| {
-            let mut record = vec![*kind, f.id, u8::from(f.version.is_some()), 0];
-            for n in [f.version.unwrap_or(0), f.m, f.t, f.p] {
-                record.extend(n.to_le_bytes());
-            }
-            record
-        });
+        let record = expected.as_ref().map(|(kind, f)| record_bytes(*kind, f));
         let room = choose(&mut self.rng, PHC_RECORD);
         self.string_entry("phc_read", phc_read, s, room, record.map_err(|n| *n), 0);
+
+        let needed = expected.as_ref().map_or(0, |(_, f)| byte_strings(f).concat().len());
+        let (record_room, buffer_room) = (choose(&mut self.rng, PHC_RECORD_ALL), choose(&mut self.rng, needed));
+        self.read_all_entry(s, record_room, buffer_room, &expected);
 
         let parts: [(&str, StringEntry, fn(&Fields) -> &Vec<u8>); 4] = [
             ("phc_keyid", phc_keyid, |f| &f.keyid),
@@ -273,6 +186,28 @@ impl Run {
     }
 }
 
+fn byte_strings(f: &Fields) -> [&[u8]; 4] {
+    [&f.keyid, &f.data, &f.salt, &f.output]
+}
+
+/// The record of phc_read.
+fn record_bytes(kind: u8, f: &Fields) -> Vec<u8> {
+    let mut record = vec![kind, f.id, u8::from(f.version.is_some()), 0];
+    for n in [f.version.unwrap_or(0), f.m, f.t, f.p] {
+        record.extend(n.to_le_bytes());
+    }
+    record
+}
+
+/// The record of phc_read_all.
+fn record_all_bytes(kind: u8, f: &Fields) -> Vec<u8> {
+    let mut record = record_bytes(kind, f);
+    for bytes in byte_strings(f) {
+        record.extend((bytes.len() as u32).to_le_bytes());
+    }
+    record
+}
+
 /// Mostly enough, now and then one short, or anything.
 fn some_room(rng: &mut Rng, needed: usize) -> usize {
     match rng.below(8) {
@@ -284,118 +219,6 @@ fn some_room(rng: &mut Rng, needed: usize) -> usize {
 }
 
 // Fields.
-
-const VERSIONS: [u32; 10] = [0, 1, 15, 16, 17, 18, 19, 20, u32::MAX - 1, u32::MAX];
-const ID_NUMBERS: [u8; 9] = [0, 1, 2, 3, 4, 5, 6, 7, 255];
-
-fn is_argon2(id: u8) -> bool {
-    (1..=3).contains(&id)
-}
-
-fn good_fields(rng: &mut Rng, id: u8) -> Fields {
-    let limits = reference::limits(id).unwrap();
-    let argon2 = is_argon2(id);
-    let any_p = 1 + rng.below(255) as u32;
-    let p = if argon2 { rng.pick(&[1, 2, 254, 255, any_p]) } else { 0 };
-    let m_low = if argon2 { 8 * p } else { 0 };
-    let m_high = if argon2 { u32::MAX } else { 0 };
-    // Each count of digits comes up.
-    let wide = |rng: &mut Rng, low: u32, high: u32| (rng.next() as u32 >> rng.below(32)).clamp(low, high);
-    let m = wide(rng, m_low, m_high);
-    let t = match (rng.below(3), limits.t_omitted) {
-        (0, Some(t)) => t,
-        (1, Some(t)) => t - 1 + rng.below(3) as u32,
-        _ => wide(rng, *limits.t.start(), *limits.t.end()),
-    };
-    let version = if limits.versions.is_empty() || rng.once_in(3) { None } else { Some(rng.pick(limits.versions)) };
-    let some = |rng: &mut Rng, range: &std::ops::RangeInclusive<usize>| {
-        let len = range.start() + rng.below(range.end() - range.start() + 1);
-        let len = rng.pick(&[*range.start(), *range.end(), len, len]);
-        rng.bytes(len)
-    };
-    let (keyid, data) = (some(rng, &limits.keyid), some(rng, &limits.data));
-    let (mut salt, mut output) = (some(rng, &limits.salt), some(rng, &limits.output));
-    match rng.below(5) {
-        0 => (salt, output) = (vec![], vec![]),
-        1 => output = vec![],
-        _ => {}
-    }
-    Fields { id, version, m, t, p, keyid, data, salt, output }
-}
-
-fn any_good_fields(rng: &mut Rng) -> Fields {
-    let id = 1 + rng.below(5) as u8;
-    good_fields(rng, id)
-}
-
-fn numbers(p: u32) -> Vec<u32> {
-    let mut all = vec![0, 1, 2, 7, 8, 9, 99, 100, 101, 254, 255, 256, 19_999, 20_000, 20_001, u32::MAX - 1, u32::MAX];
-    // 8p as it is, and as a product that wraps would have it.
-    let eight = p.wrapping_mul(8);
-    all.extend([eight.wrapping_sub(1), eight, eight.wrapping_add(1)]);
-    all
-}
-
-/// Changes one field to a value at, near or past a limit.
-fn push_to_limit(rng: &mut Rng, a: &mut Arguments) {
-    let near = |rng: &mut Rng, limits: &[usize]| {
-        let len = rng.pick(limits) + rng.below(3);
-        rng.bytes(len.saturating_sub(1))
-    };
-    let f = &mut a.fields;
-    match rng.below(10) {
-        0 => f.id = rng.pick(&ID_NUMBERS),
-        1 => a.has_version = rng.pick(&[0, 1, 1, 2, 255]),
-        2 => (a.has_version, a.version) = (1, rng.pick(&VERSIONS)),
-        3 => f.m = rng.pick(&numbers(f.p)),
-        4 => f.t = rng.pick(&numbers(0)),
-        5 => f.p = rng.pick(&[0, 1, 2, 254, 255, 256, 1 << 29, (1 << 29) + 1, u32::MAX]),
-        6 => f.keyid = near(rng, &[0, 1, 8]),
-        7 => f.data = near(rng, &[0, 1, 32]),
-        8 => f.salt = near(rng, &[0, 4, 8, 32, 48]),
-        _ => f.output = near(rng, &[0, 12, 64, 96]),
-    }
-}
-
-/// The fields spelled as they stand, permitted or not.
-fn spell(a: &Arguments) -> Vec<u8> {
-    let f = &a.fields;
-    let id = match f.id {
-        1..=5 => IDS[usize::from(f.id) - 1],
-        0 => "",
-        6 => "argon2",
-        7 => "pbkdf2s4",
-        _ => "scrypt",
-    };
-    let mut s = format!("${id}").into_bytes();
-    if a.has_version != 0 {
-        s.extend(format!("$v={}", a.version).bytes());
-    }
-    let mut items: Vec<Vec<u8>> = Vec::new();
-    for (name, n) in [("m", f.m), ("t", f.t), ("p", f.p)] {
-        // In pbkdf2 m and p have no place, and t=20000 is for the mutations.
-        let shown = is_argon2(f.id) || if name == "t" { n != 20_000 } else { n != 0 };
-        if shown {
-            items.push(format!("{name}={n}").into_bytes());
-        }
-    }
-    for (name, bytes) in [("keyid=", &f.keyid), ("data=", &f.data)] {
-        if !bytes.is_empty() {
-            items.push([name.as_bytes(), &reference::b64_encode(bytes)].concat());
-        }
-    }
-    if !items.is_empty() {
-        s.push(b'$');
-        s.extend(items.join(&b','));
-    }
-    for bytes in [&f.salt, &f.output] {
-        if !bytes.is_empty() {
-            s.push(b'$');
-            s.extend(reference::b64_encode(bytes));
-        }
-    }
-    s
-}
 
 fn both_ways(run: &mut Run, a: &Arguments) {
     run.compare_fields(a);
@@ -521,88 +344,6 @@ fn grammar_limits(run: &mut Run) {
 
 // Mutations.
 
-const ALPHABET: &[u8] = b"$$$$==,,,vmtpkeyidatargon2pbkdf2s3idABab0123456789+/.-";
-
-const NUMERALS: [&str; 22] = [
-    "", "0", "00", "-", "-0", "-1", "+1", "1", "01", "16", "19", "019", "19 ", "99", "100", "20000", "020000", "4294967295", "4294967296",
-    "9223372036854775808", "18446744073709551617", "340282366920938463463374607431768211457",
-];
-
-/// Splits at a byte, changes the list of parts, joins again.
-fn in_parts(rng: &mut Rng, s: &[u8], by: u8) -> Vec<u8> {
-    let mut parts: Vec<Vec<u8>> = s.split(|c| *c == by).map(<[u8]>::to_vec).collect();
-    let (a, b) = (rng.below(parts.len()), rng.below(parts.len()));
-    match rng.below(5) {
-        0 => parts.swap(a, b),
-        1 => parts.insert(b, parts[a].clone()),
-        2 => drop(parts.remove(a)),
-        3 => parts.truncate(a + 1),
-        _ => parts[b] = parts[a].clone(),
-    }
-    parts.join(&by)
-}
-
-/// Changes the items of one piece that has some.
-fn in_items(rng: &mut Rng, s: &[u8]) -> Vec<u8> {
-    let mut parts: Vec<Vec<u8>> = s.split(|c| *c == b'$').map(<[u8]>::to_vec).collect();
-    if let Some(piece) = parts.iter_mut().find(|piece| piece.contains(&b',')) {
-        *piece = in_parts(rng, piece, b',');
-    }
-    parts.join(&b'$')
-}
-
-/// Puts another numeral in place of one after an `=`.
-fn in_numeral(rng: &mut Rng, s: &[u8]) -> Vec<u8> {
-    let starts: Vec<usize> = (1..=s.len()).filter(|i| s[i - 1] == b'=').collect();
-    if starts.is_empty() {
-        return s.to_vec();
-    }
-    let start = rng.pick(&starts);
-    let end = start + s[start..].iter().take_while(|c| c.is_ascii_digit()).count();
-    [&s[..start], rng.pick(&NUMERALS).as_bytes(), &s[end..]].concat()
-}
-
-/// Changes the last character of a piece or item, where the unused bits are.
-fn in_last_character(rng: &mut Rng, s: &[u8]) -> Vec<u8> {
-    let ends: Vec<usize> = (1..=s.len()).filter(|i| *i == s.len() || matches!(s[*i], b'$' | b',')).collect();
-    let mut s = s.to_vec();
-    if let Some(end) = ends.get(rng.below(ends.len().max(1))) {
-        s[end - 1] = rng.pick(b"AQgwEIMUYcBCDPR/+.-");
-    }
-    s
-}
-
-fn mutate(rng: &mut Rng, s: &[u8], other: &[u8]) -> Vec<u8> {
-    let mut s = s.to_vec();
-    let place = rng.below(s.len() + 1);
-    let byte = if rng.once_in(4) { rng.next() as u8 } else { rng.pick(ALPHABET) };
-    match rng.below(12) {
-        0 if place < s.len() => s[place] = byte,
-        1 if place < s.len() => s[place] ^= 1 << rng.below(8),
-        2 => s.insert(place, byte),
-        3 if place < s.len() => drop(s.remove(place)),
-        4 => s.truncate(place),
-        5 => s.extend(rng.pick(&["$", "$AAAA", "$AAAAAAAAAAAAAAAA", "A", "=", ","]).bytes()),
-        6 => {
-            let from = rng.below(other.len() + 1);
-            s.truncate(place);
-            s.extend(&other[from..]);
-        }
-        7 => {
-            // Joined where pieces meet.
-            let cuts = |s: &[u8]| -> Vec<usize> { (0..=s.len()).filter(|i| *i == s.len() || s[*i] == b'$').collect() };
-            s.truncate(rng.pick(&cuts(&s)));
-            s.extend(&other[rng.pick(&cuts(other))..]);
-        }
-        8 => s = in_parts(rng, &s, b'$'),
-        9 => s = in_items(rng, &s),
-        10 => s = in_numeral(rng, &s),
-        11 => s = in_last_character(rng, &s),
-        _ => {}
-    }
-    s
-}
-
 fn mutations(run: &mut Run) {
     for _ in 0..150_000 {
         let one = |rng: &mut Rng| {
@@ -636,7 +377,91 @@ fn random(run: &mut Run) {
     }
 }
 
+// Good strings.
+
+const GOOD: u64 = 1_000_000;
+
+/// Every one is accepted, and carries the fields that it was written from.
+fn good_strings(run: &mut Run) {
+    let mut shapes: HashMap<_, u64> = HashMap::new();
+    let mut sizes = HashSet::new();
+    for round in 0..GOOD {
+        let fields = good_fields(&mut run.rng, 1 + (round % 5) as u8);
+        let s = reference::write(&fields).unwrap();
+        let kind = match (fields.salt.is_empty(), fields.output.is_empty()) {
+            (true, _) => 1,
+            (_, true) => 2,
+            _ => 3,
+        };
+        let needed = byte_strings(&fields).concat().len();
+        let (record_room, buffer_room) = if round % 2 == 0 { (PHC_RECORD_ALL, needed) } else { (PHC_RECORD_ALL + 4, PHC_BYTES) };
+
+        // Which parts are there.
+        let omitted = reference::limits(fields.id).unwrap().t_omitted == Some(fields.t);
+        let shape = (fields.id, fields.version, omitted, fields.keyid.is_empty(), fields.data.is_empty(), kind);
+        *shapes.entry(shape).or_default() += 1;
+        sizes.extend(sizes_of(&fields));
+
+        run.string_entry("phc_read", phc_read, &s, PHC_RECORD, Ok(record_bytes(kind, &fields)), 0);
+        run.read_all_entry(&s, record_room, buffer_room, &Ok((kind, fields)));
+        run.good += 1;
+    }
+
+    // Versions, keyid, data and kinds of the three ids of Argon2; t, keyid and kinds of the two of pbkdf2.
+    assert_eq!(shapes.len(), 3 * (3 * 2 * 2 * 3) + 2 * (2 * 2 * 3), "the shapes of good strings");
+    assert!(shapes.values().all(|n| *n > 300), "a shape of good strings came up too seldom");
+    for id in 1..=5 {
+        let limits = reference::limits(id).unwrap();
+        let digits = |range: &RangeInclusive<u32>| range.start().to_string().len()..=range.end().to_string().len();
+        let ranges = [
+            ("keyid", limits.keyid.clone()),
+            ("data", limits.data.clone()),
+            ("salt", limits.salt.clone()),
+            ("output", limits.output.clone()),
+            ("digits of m", digits(&limits.m)),
+            ("digits of t", digits(&limits.t)),
+            ("digits of p", digits(&limits.p)),
+        ];
+        for (what, range) in ranges {
+            for size in range {
+                assert!(sizes.contains(&(id, what, size)), "{}: {size} never came up for {what}", IDS[usize::from(id) - 1]);
+            }
+        }
+    }
+}
+
+fn sizes_of(f: &Fields) -> [(u8, &'static str, usize); 7] {
+    let digits = |n: u32| n.to_string().len();
+    [
+        (f.id, "keyid", f.keyid.len()),
+        (f.id, "data", f.data.len()),
+        (f.id, "salt", f.salt.len()),
+        (f.id, "output", f.output.len()),
+        (f.id, "digits of m", digits(f.m)),
+        (f.id, "digits of t", digits(f.t)),
+        (f.id, "digits of p", digits(f.p)),
+    ]
+}
+
 // Buffers.
+
+/// Each of the two buffers of phc_read_all at every size, beside some of the other's.
+fn two_buffers(run: &mut Run, s: &[u8]) {
+    let expected = reference::read(s);
+    let needed = expected.as_ref().map_or(0, |(_, f)| byte_strings(f).concat().len());
+    for record_room in 0..PHC_RECORD_ALL + 8 {
+        for buffer_room in [0, needed.saturating_sub(1), needed, needed + 1, PHC_BYTES] {
+            run.read_all_entry(s, record_room, buffer_room, &expected);
+            run.cases += 1;
+        }
+    }
+    for buffer_room in 0..needed + 20 {
+        for record_room in [0, PHC_RECORD, PHC_RECORD_ALL - 1, PHC_RECORD_ALL, PHC_RECORD_ALL + 1] {
+            run.read_all_entry(s, record_room, buffer_room, &expected);
+            run.cases += 1;
+        }
+    }
+}
 
 fn buffers(run: &mut Run) {
     for round in 0..40 {
@@ -649,16 +474,19 @@ fn buffers(run: &mut Run) {
         for room in 0..84 {
             run.compare_rooms(&s, &mut |_, _| room);
         }
+        two_buffers(run, &s);
     }
     // Refusals keep their number, whatever the room.
     for (s, _) in KNOWN {
         for room in 0..30 {
             run.compare_rooms(s.as_bytes(), &mut |_, _| room);
         }
+        two_buffers(run, s.as_bytes());
     }
     // Often enough that each empty slice comes both as NULL and otherwise.
     for _ in 0..200 {
         run.compare_rooms(b"", &mut |_, _| 0);
+        run.compare_rooms(b"$pbkdf2s2", &mut |_, needed| needed);
         let empty = Fields { id: 4, version: None, m: 0, t: 100, p: 0, keyid: vec![], data: vec![], salt: vec![], output: vec![] };
         run.write_entry(&Arguments::of(&empty), 0).ok();
         run.write_entry(&Arguments::of(&empty), PHC_ROOM).ok();
@@ -689,8 +517,18 @@ fn main() {
     };
     println!("seed {seed}");
     let rng = Rng::new(seed);
-    let mut run =
-        Run { seed, rng, cases: 0, read: 0, written: 0, longest: 0, reader_numbers: [0; 18], writer_numbers: [0; 18] };
+    let mut run = Run {
+        seed,
+        rng,
+        cases: 0,
+        read: 0,
+        good: 0,
+        written: 0,
+        longest: 0,
+        reader_numbers: [0; 18],
+        read_all_numbers: [0; 18],
+        writer_numbers: [0; 18],
+    };
 
     known(&mut run);
     generated(&mut run);
@@ -698,13 +536,18 @@ fn main() {
     mutations(&mut run);
     random(&mut run);
     buffers(&mut run);
+    good_strings(&mut run);
 
     println!("{} cases compared, {} accepted by the reader, {} by the writer", run.cases, run.read, run.written);
+    println!("{} good strings more, all accepted", run.good);
 
     // A run that leaves a rule out shows nothing of it.
-    assert!(run.cases >= 300_000 && run.read > 20_000 && run.written > 20_000, "too few cases");
+    assert!(run.cases >= 300_000 && run.read > 20_000 && run.written > 20_000 && run.good >= GOOD, "too few cases");
     for row in 0..=15 {
         assert!(run.reader_numbers[row] > 100, "the reader's number {row} came up too seldom");
+    }
+    for row in (0..=15).chain([17]) {
+        assert!(run.read_all_numbers[row] > 100, "the number {row} of phc_read_all came up too seldom");
     }
     for row in [0, 8, 9, 11, 12, 14, 15, 16, 17] {
         assert!(run.writer_numbers[row] > 100, "the writer's number {row} came up too seldom");

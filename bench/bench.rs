@@ -1,0 +1,363 @@
+//! Times readers of PHC strings, in turn and on the same strings.
+//!
+//! A peer takes part where its cfg is set: `argon2` is libargon2, `password_hash` is RustCrypto's password-hash.
+
+#[allow(dead_code)]
+#[path = "../tests/library.rs"]
+mod library;
+
+use library::*;
+use std::ffi::CString;
+use std::hint::black_box;
+use std::time::Instant;
+
+const ROUNDS: usize = 15;
+const CALLS: u64 = 100_000;
+
+/// Names, strings, and whether each is accepted.
+const STRINGS: [(&str, &str, bool); 4] = [
+    ("002's example", "$argon2id$v=19$m=65536,t=2,p=1$gZiV/M1gPc22ElAH/Jh1Hw$CWOrkoo7oJBQ/iyh7uJ0LO2aLEfrHwTWllSAxT0zRno", true),
+    (
+        "longest of Argon2",
+        "$argon2id$v=19$m=4294967295,t=4294967295,p=255,keyid=AAAAAAAAAAA,data=AAAAAAAAAAAAAAAAAAAAAAAAAAAAAAAAAAAAAAAAAAA\
+         $AAAAAAAAAAAAAAAAAAAAAAAAAAAAAAAAAAAAAAAAAAAAAAAAAAAAAAAAAAAAAAAA\
+         $AAAAAAAAAAAAAAAAAAAAAAAAAAAAAAAAAAAAAAAAAAAAAAAAAAAAAAAAAAAAAAAAAAAAAAAAAAAAAAAAAAAAAA",
+        true,
+    ),
+    ("short pbkdf2", "$pbkdf2s3$t=4096$AAECAw$AAECAwQFBgcICQoL", true),
+    // An unused bit of the last character is set: everything before it has been read.
+    ("refused", "$argon2id$v=19$m=65536,t=2,p=1$gZiV/M1gPc22ElAH/Jh1Hw$CWOrkoo7oJBQ/iyh7uJ0LO2aLEfrHwTWllSAxT0zRnp", false),
+];
+
+/// A string, as each reader takes it.
+struct Text {
+    text: &'static str,
+    #[cfg_attr(not(argon2), allow(dead_code))]
+    terminated: CString,
+}
+
+/// What a reader of the whole found.
+#[derive(Debug, Default, PartialEq)]
+struct Fields {
+    m: u32,
+    t: u32,
+    p: u32,
+    keyid: Vec<u8>,
+    data: Vec<u8>,
+    salt: Vec<u8>,
+    output: Vec<u8>,
+}
+
+struct Reader {
+    name: &'static str,
+    /// Calls it so many times; how often the string was accepted.
+    calls: fn(&Text, u64) -> u64,
+    /// For a reader that gives numbers and bytes, all of them.
+    fields: Option<fn(&Text) -> Option<Fields>>,
+    peer: bool,
+}
+
+fn repeat(calls: u64, mut accepts: impl FnMut() -> bool) -> u64 {
+    (0..calls).map(|_| u64::from(accepts())).sum()
+}
+
+// The library.
+
+fn number_at(record: &[u8], at: usize) -> u32 {
+    u32::from_le_bytes(record[at..at + 4].try_into().unwrap())
+}
+
+fn read_calls(s: &Text, calls: u64) -> u64 {
+    let mut record = [0; PHC_RECORD];
+    repeat(calls, || {
+        let s = black_box(s.text);
+        // SAFETY: both slices are whole and apart.
+        let answer = unsafe { phc_read(s.as_ptr(), s.len(), record.as_mut_ptr(), record.len()) };
+        black_box(&record);
+        answer == 0
+    })
+}
+
+fn read_all_once(s: &str, record: &mut [u8; PHC_RECORD_ALL], bytes: &mut [u8; PHC_BYTES]) -> bool {
+    // SAFETY: the slices are whole and apart.
+    unsafe { phc_read_all(s.as_ptr(), s.len(), record.as_mut_ptr(), record.len(), bytes.as_mut_ptr(), bytes.len()) == 0 }
+}
+
+fn read_all_calls(s: &Text, calls: u64) -> u64 {
+    let (mut record, mut bytes) = ([0; PHC_RECORD_ALL], [0; PHC_BYTES]);
+    repeat(calls, || {
+        let accepted = read_all_once(black_box(s.text), &mut record, &mut bytes);
+        black_box((&record, &bytes));
+        accepted
+    })
+}
+
+fn read_all_fields(s: &Text) -> Option<Fields> {
+    let (mut record, mut bytes) = ([0; PHC_RECORD_ALL], [0; PHC_BYTES]);
+    if !read_all_once(s.text, &mut record, &mut bytes) {
+        return None;
+    }
+    let mut rest = &bytes[..];
+    let mut next = |at: usize| {
+        let (part, after) = rest.split_at(number_at(&record, at) as usize);
+        rest = after;
+        part.to_vec()
+    };
+    let (keyid, data, salt, output) = (next(20), next(24), next(28), next(32));
+    Some(Fields { m: number_at(&record, 8), t: number_at(&record, 12), p: number_at(&record, 16), keyid, data, salt, output })
+}
+
+// libargon2.
+
+#[cfg(argon2)]
+mod argon2 {
+    use super::*;
+    use std::ffi::{c_char, c_int, c_void};
+    use std::ptr::null_mut;
+
+    /// argon2_context of argon2.h.
+    #[repr(C)]
+    struct Context {
+        out: *mut u8,
+        outlen: u32,
+        pwd: *mut u8,
+        pwdlen: u32,
+        salt: *mut u8,
+        saltlen: u32,
+        secret: *mut u8,
+        secretlen: u32,
+        ad: *mut u8,
+        adlen: u32,
+        t_cost: u32,
+        m_cost: u32,
+        lanes: u32,
+        threads: u32,
+        version: u32,
+        allocate_cbk: *mut c_void,
+        free_cbk: *mut c_void,
+        flags: u32,
+    }
+
+    const ARGON2_ID: c_int = 2;
+
+    extern "C" {
+        fn decode_string(ctx: *mut Context, s: *const c_char, kind: c_int) -> c_int;
+    }
+
+    /// Room for the longest salt and output of the profiles.
+    struct Decoder {
+        salt: [u8; 48],
+        output: [u8; 64],
+        context: Context,
+    }
+
+    impl Decoder {
+        fn new() -> Box<Decoder> {
+            let context = Context {
+                out: null_mut(),
+                outlen: 0,
+                pwd: null_mut(),
+                pwdlen: 0,
+                salt: null_mut(),
+                saltlen: 0,
+                secret: null_mut(),
+                secretlen: 0,
+                ad: null_mut(),
+                adlen: 0,
+                t_cost: 0,
+                m_cost: 0,
+                lanes: 0,
+                threads: 0,
+                version: 0,
+                allocate_cbk: null_mut(),
+                free_cbk: null_mut(),
+                flags: 0,
+            };
+            let mut decoder = Box::new(Decoder { salt: [0; 48], output: [0; 64], context });
+            (decoder.context.salt, decoder.context.out) = (decoder.salt.as_mut_ptr(), decoder.output.as_mut_ptr());
+            decoder
+        }
+
+        fn once(&mut self, s: &CString) -> bool {
+            // A call takes the rooms from here, and leaves the lengths.
+            (self.context.saltlen, self.context.outlen) = (48, 64);
+            // SAFETY: the string ends in 0, and the context points to the buffers beside it.
+            unsafe { decode_string(&mut self.context, s.as_ptr(), ARGON2_ID) == 0 }
+        }
+    }
+
+    pub fn calls(s: &Text, calls: u64) -> u64 {
+        let mut decoder = Decoder::new();
+        repeat(calls, || {
+            let accepted = decoder.once(black_box(&s.terminated));
+            black_box(&decoder);
+            accepted
+        })
+    }
+
+    pub fn fields(s: &Text) -> Option<Fields> {
+        let mut decoder = Decoder::new();
+        if !decoder.once(&s.terminated) {
+            return None;
+        }
+        let Decoder { salt, output, context } = &*decoder;
+        let (salt, output) = (salt[..context.saltlen as usize].to_vec(), output[..context.outlen as usize].to_vec());
+        Some(Fields { m: context.m_cost, t: context.t_cost, p: context.lanes, salt, output, ..Fields::default() })
+    }
+}
+
+// RustCrypto's password-hash.
+
+#[cfg(password_hash)]
+mod rustcrypto {
+    use super::*;
+    use ::password_hash::PasswordHash;
+
+    pub fn parse_calls(s: &Text, calls: u64) -> u64 {
+        repeat(calls, || black_box(PasswordHash::new(black_box(s.text))).is_ok())
+    }
+
+    /// Room for the longest byte strings of the profiles. The output is decoded in the hash itself.
+    struct Room {
+        keyid: [u8; 8],
+        data: [u8; 32],
+        salt: [u8; 48],
+    }
+
+    const ROOM: Room = Room { keyid: [0; 8], data: [0; 32], salt: [0; 48] };
+
+    #[derive(Default)]
+    struct Decoded {
+        m: u32,
+        t: u32,
+        p: u32,
+        keyid_len: usize,
+        data_len: usize,
+        salt_len: usize,
+    }
+
+    fn decode(hash: &PasswordHash, room: &mut Room) -> Option<Decoded> {
+        let mut decoded = Decoded::default();
+        for (name, value) in hash.params.iter() {
+            match name.as_str() {
+                "m" => decoded.m = value.decimal().ok()?,
+                "t" => decoded.t = value.decimal().ok()?,
+                "p" => decoded.p = value.decimal().ok()?,
+                "keyid" => decoded.keyid_len = value.b64_decode(&mut room.keyid).ok()?.len(),
+                "data" => decoded.data_len = value.b64_decode(&mut room.data).ok()?.len(),
+                _ => return None,
+            }
+        }
+        if let Some(salt) = hash.salt {
+            decoded.salt_len = salt.b64_decode(&mut room.salt).ok()?.len();
+        }
+        Some(decoded)
+    }
+
+    pub fn calls(s: &Text, calls: u64) -> u64 {
+        let mut room = ROOM;
+        repeat(calls, || {
+            let Ok(hash) = PasswordHash::new(black_box(s.text)) else { return false };
+            let decoded = decode(&hash, &mut room);
+            black_box((&hash, &decoded, &room));
+            decoded.is_some()
+        })
+    }
+
+    pub fn fields(s: &Text) -> Option<Fields> {
+        let mut room = ROOM;
+        let hash = PasswordHash::new(s.text).ok()?;
+        let decoded = decode(&hash, &mut room)?;
+        let output = hash.hash.map_or(vec![], |output| output.as_bytes().to_vec());
+        let keyid = room.keyid[..decoded.keyid_len].to_vec();
+        let data = room.data[..decoded.data_len].to_vec();
+        let salt = room.salt[..decoded.salt_len].to_vec();
+        Some(Fields { m: decoded.m, t: decoded.t, p: decoded.p, keyid, data, salt, output })
+    }
+}
+
+// The run.
+
+fn readers() -> Vec<Reader> {
+    vec![
+        Reader { name: "phc_read", calls: read_calls, fields: None, peer: false },
+        Reader { name: "phc_read_all", calls: read_all_calls, fields: Some(read_all_fields), peer: false },
+        #[cfg(argon2)]
+        Reader { name: "libargon2", calls: argon2::calls, fields: Some(argon2::fields), peer: true },
+        #[cfg(password_hash)]
+        Reader { name: "password-hash", calls: rustcrypto::calls, fields: Some(rustcrypto::fields), peer: true },
+        #[cfg(password_hash)]
+        Reader { name: "password-hash, parsing alone", calls: rustcrypto::parse_calls, fields: None, peer: true },
+    ]
+}
+
+/// Whether the reader knows such a string. Those that give the fields must agree on them.
+fn takes_part(reader: &Reader, s: &Text, good: bool) -> bool {
+    let accepted = (reader.calls)(s, 1) == 1;
+    if !good {
+        assert!(!accepted, "{} accepts {}", reader.name, s.text);
+        return true;
+    }
+    if let (true, Some(fields)) = (accepted, reader.fields) {
+        assert_eq!(fields(s), read_all_fields(s), "{} on {}", reader.name, s.text);
+    }
+    assert!(accepted || reader.peer, "{} refuses {}", reader.name, s.text);
+    accepted
+}
+
+fn nanoseconds(reader: &Reader, s: &Text) -> f64 {
+    let start = Instant::now();
+    black_box((reader.calls)(s, CALLS));
+    start.elapsed().as_nanos() as f64 / CALLS as f64
+}
+
+/// The samples at a quarter, the half and three quarters.
+fn quartiles(samples: &[f64]) -> [f64; 3] {
+    let mut sorted = samples.to_vec();
+    sorted.sort_by(f64::total_cmp);
+    [1, 2, 3].map(|quarter| sorted[sorted.len() * quarter / 4])
+}
+
+fn main() {
+    let readers = readers();
+    println!("{ROUNDS} rounds, each of {CALLS} calls of every reader in turn. Buffers are not cleared before a call.");
+    println!("Ratio: to the fastest peer that also decodes; of the ratios in each round, the median.");
+    println!();
+    println!("| string | reader | ns a call, median | quartiles | ratio |");
+    println!("|---|---|---|---|---|");
+    for (name, text, good) in STRINGS {
+        let s = Text { text, terminated: CString::new(text).unwrap() };
+        let taking_part: Vec<bool> = readers.iter().map(|reader| takes_part(reader, &s, good)).collect();
+        let mut samples = vec![Vec::new(); readers.len()];
+        // The first round warms up.
+        for round in 0..=ROUNDS {
+            for turn in 0..readers.len() {
+                let i = (round + turn) % readers.len();
+                if taking_part[i] {
+                    let time = nanoseconds(&readers[i], &s);
+                    if round > 0 {
+                        samples[i].push(time);
+                    }
+                }
+            }
+        }
+        let whole_peers = (0..readers.len()).filter(|i| taking_part[*i] && readers[*i].peer && readers[*i].fields.is_some());
+        let fastest = whole_peers.min_by(|a, b| f64::total_cmp(&quartiles(&samples[*a])[1], &quartiles(&samples[*b])[1]));
+        for (reader, times) in readers.iter().zip(&samples) {
+            print!("| {name}, {} bytes | {} ", text.len(), reader.name);
+            if times.is_empty() {
+                println!("| - | - | - |");
+                continue;
+            }
+            let [low, median, high] = quartiles(times);
+            print!("| {median:.1} | {low:.1}..{high:.1} ");
+            match fastest {
+                Some(fastest) => {
+                    let ratios: Vec<f64> = times.iter().zip(&samples[fastest]).map(|(time, peer)| time / peer).collect();
+                    println!("| {:.2} |", quartiles(&ratios)[1]);
+                }
+                None => println!("| - |"),
+            }
+        }
+    }
+}
