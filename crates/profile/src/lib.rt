@@ -6,6 +6,7 @@ mod judge;
 pub mod limits;
 mod name_field;
 mod number_field;
+mod ranges;
 pub mod reader;
 mod tagged;
 mod values;

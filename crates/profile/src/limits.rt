@@ -1,8 +1,10 @@
 // What a profile allows, by the number of its id (specs/Limits.antt).
 use crate::fields::Version;
+use crate::ranges::highest_of;
+use crate::ranges::lowest_of;
 use grammar::units::Bytes;
 ghost use mathlib.Core.Path.{_≡_};
-ghost use Rattle.profile.specs.Limits.{lowest, highest, inRange, isSize, versionAllowed, profileOf, limitsOf, editionTwo};
+ghost use Rattle.profile.specs.Limits.{inRange, isSize, versionAllowed, profileOf, limitsOf, editionTwo};
 
 // A number parameter: always written; left out where it is `given`; or none of this id's, and `given`.
 pub enum NumberRule {
@@ -26,34 +28,6 @@ pub struct Limits {
     pub ad: BytesRule,
     pub salt: BytesRule,
     pub output: BytesRule,
-}
-
-pub fn lowest_of(rule: NumberRule) -> u32
-    ensures { λ r. ⌜ r ≡ lowest rule ⌝ }
-{
-    match rule {
-        NumberRule::Needed { low, high: _ } => low,
-        NumberRule::Omitted {
-            low,
-            high: _,
-            given: _,
-        } => low,
-        NumberRule::Fixed { given } => given,
-    }
-}
-
-pub fn highest_of(rule: NumberRule) -> u32
-    ensures { λ r. ⌜ r ≡ highest rule ⌝ }
-{
-    match rule {
-        NumberRule::Needed { low: _, high } => high,
-        NumberRule::Omitted {
-            low: _,
-            high,
-            given: _,
-        } => high,
-        NumberRule::Fixed { given } => given,
-    }
 }
 
 pub fn in_range(rule: NumberRule, n: u32) -> bool
@@ -153,12 +127,6 @@ pub fn limits_of(id: u8) -> Limits
         return pbkdf2();
     }
     nobody()
-}
-
-pub fn is_known(id: u8) -> bool
-    ensures { λ r. ⌜ r ≡ profileOf editionTwo id .known ⌝ }
-{
-    1 <= id && id <= 5
 }
 
 // Absent in every profile; 16 or 19 in Argon2's.

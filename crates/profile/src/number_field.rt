@@ -1,7 +1,7 @@
 // One number parameter: its rule over the span of its value, and its text.
 use crate::limits::NumberRule;
-use crate::limits::highest_of;
-use crate::limits::lowest_of;
+use crate::ranges::highest_of;
+use crate::ranges::lowest_of;
 use crate::tagged::decimal_len;
 use crate::tagged::put_decimal;
 use grammar::decimal::Limited;

@@ -3,14 +3,20 @@ use crate::bytes_field::bytes_allowed;
 use crate::fields::Fields;
 use crate::limits::Limits;
 use crate::limits::in_range;
-use crate::limits::is_known;
 use crate::limits::limits_of;
 use crate::limits::version_allowed;
 ghost use mathlib.Core.Path.{_≡_};
 ghost use Rattle.grammar.specs.Rules.{firstOf};
-ghost use Rattle.profile.specs.Limits.{editionTwo};
+ghost use Rattle.profile.specs.Limits.{profileOf, editionTwo};
 ghost use Rattle.profile.specs.Fields.{fieldSet};
 ghost use Rattle.profile.specs.Writer.{rangeRows, bytesRows, refusal};
+
+// Ids are 1 to 5.
+fn is_known(id: u8) -> bool
+    ensures { λ r. ⌜ r ≡ profileOf editionTwo id .known ⌝ }
+{
+    1 <= id && id <= 5
+}
 
 // Row 11: each number in its range, then m at least 8p, tested without a product that can wrap.
 fn bad_numbers(limits: Limits, n: Fields) -> u8

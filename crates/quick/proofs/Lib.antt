@@ -10,3 +10,4 @@ pub mod Taken
 pub mod Found
 pub mod Walked
 pub mod Answers
+pub mod Claims

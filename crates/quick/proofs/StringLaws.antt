@@ -26,12 +26,13 @@ use Rattle.profile.specs.declared.fields.Fields.{Fields}
 use Rattle.profile.specs.declared.fields.Contents.{Contents}
 use Rattle.quick.specs.Walk.{run, starts, andThen, Taken, taken, writtenBytes, bytesIn, Pair, keysIn, hashesIn, withStrings}
 use Rattle.quick.specs.WalkSteps.{textAt, bytesAt, Ran, most, Stored, StoredTwo, contentsFor, contentsOf, roomy, StoredAll}
+use Rattle.quick.specs.Claims.{mostBytes}
 use Rattle.quick.proofs.Runs.{run-length}
 use Rattle.quick.proofs.Chains.{bytes-absent}
 
 -- ---- one byte string
 
-small : (r : BytesRule) (n : ℕ) → isSize r n ≡ true → n ≤ most r
+pub small : (r : BytesRule) (n : ℕ) → isSize r n ≡ true → n ≤ most r
 small (Sized low high) n e = from-within (low .0) (high .0) n e .1
 small Barred n e = let z : _≡_ {A = ℕ} 0 1 = cc in absurd (omega arith)
 
@@ -221,7 +222,7 @@ module _ (l : Limits) (f : Fields) (mark : ℕ) (s : List ℕ) (at : ℕ) (out�
           }
 
 -- the byte strings of every profile of edition two fit
-pub roomy-two : (k : ℕ) → roomy (limitsOf (profileOf editionTwo k)) ≤ 160
+pub roomy-two : (k : ℕ) → roomy (limitsOf (profileOf editionTwo k)) ≤ mostBytes + 2
 unfolding editionTwo
 roomy-two zero = omega arith
 roomy-two (suc zero) = omega arith

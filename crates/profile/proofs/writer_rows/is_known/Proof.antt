@@ -1,9 +1,9 @@
--- `profile::limits::is_known` meets its contract. Assumes nothing.
+-- `profile::writer_rows::is_known` meets its contract. Assumes nothing.
 use mathlib.Core.Path.{sym, _∙_}
 use borrow.Author.Tests.{lt-leb}
 use Rattle.profile.proofs.LimitLaws.{known-none, known-is}
-use Rattle.profile.proofs.limits.is_known.Statement.{statement}
-use Rattle.profile.proofs.limits.is_known.Tie as tie
+use Rattle.profile.proofs.writer_rows.is_known.Statement.{statement}
+use Rattle.profile.proofs.writer_rows.is_known.Tie as tie
 
 returns : tie.Need-returns
 returns c = sym (known-is (c .before .args .id) (c .if1 .taken))
