@@ -127,8 +127,8 @@ module _ (e : List Profile) (k : ℕ) (z : k ≡ 0 → ⊥) (s : List ℕ) where
   pub after-none : headIn e k s ≡ none → afterId e k s ≡ none
   after-none q = rw (ne-eqb k 0 z, q)
 
-  pub after-some : (n : Taken Fields) → headIn e k s ≡ some n → afterId e k s ≡ withStrings (limitsOf (profileOf e k)) n
-  after-some n q = rw (ne-eqb k 0 z, q)
+  pub after-some : (l : Limits) → l ≡ limitsOf (profileOf e k) → (n : Taken Fields) → headIn e k s ≡ some n → afterId e k s ≡ withStrings l n
+  after-some l w n q = rw (ne-eqb k 0 z, q, w)
 
 pub walked-empty : (e : List Profile) (s : List ℕ) → length s ≡ 0 → walked e s ≡ none
 unfolding walked

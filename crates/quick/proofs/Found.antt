@@ -21,7 +21,7 @@ use Rattle.profile.specs.declared.fields.Fields.{Fields}
 use Rattle.profile.proofs.Texts.{formatted-is}
 use Rattle.profile.proofs.Kept.{Kept, here, permitted-of}
 use Rattle.profile.proofs.Table.{Entry, entry-at, name-of}
-use Rattle.quick.specs.Walk.{starts, Taken, versionIn, numbersIn, Pair, keysIn, hashesIn, headIn, afterId, walked}
+use Rattle.quick.specs.Walk.{starts, Taken, versionIn, numbersIn, Pair, pairIn, keysIn, hashesIn, headIn, afterId, walked}
 use Rattle.quick.proofs.Starts.{starts-is}
 use Rattle.quick.proofs.ItemTexts.{items, Stands, stands-append, costItems, keyItems, fiveItems, hashesText, restText, pieces-row}
 use Rattle.quick.proofs.Stands.{Holds, holds-then, holds-map, holds-if, number-then, bytes-then, VersionStands, version-stands}
@@ -65,7 +65,7 @@ record KeysStand (l : Limits) (mark : ℕ) (s : List ℕ) (x : Taken Pair) : Typ
   stands : Stands mark (keyItems (x .found .first) (x .found .second)) s (x .mark) (x .rest)
 
 keys-stand : (l : Limits) (mark : ℕ) (s : List ℕ) → Holds (KeysStand l mark s) (keysIn l mark s)
-unfolding keysIn
+unfolding pairIn
 keys-stand l mark s =
     let Q = KeysStand l mark s in
     bytes-then Q (l .keyid) (text "keyid=") mark s _ (λ k hk.
@@ -84,7 +84,7 @@ record HashesStand (l : Limits) (s : List ℕ) (x : Taken Pair) : Type 0 where
   salt-bytes : all isByte (x .found .first) ≡ true
   output-bytes : all isByte (x .found .second) ≡ true
   order : (empty (x .found .first) && not (empty (x .found .second))) ≡ false
-  stands : s ≡ hashesText (x .found .first) (x .found .second)
+  stands : empty (x .rest) ≡ true → s ≡ hashesText (x .found .first) (x .found .second)
 
 -- nothing is left
 nothing : (s : List ℕ) → empty s ≡ true → s ≡ []
@@ -98,23 +98,21 @@ ordered [] output s rest e p q = rw (q, ← e, ← p)
 ordered (b ∷ salt) output s rest e p q = refl
 
 hashes-stand : (l : Limits) (s : List ℕ) → Holds (HashesStand l s) (hashesIn l s)
-unfolding hashesIn
+unfolding pairIn
 hashes-stand l s =
     let Q = HashesStand l s in
     bytes-then Q (l .salt) [] 36 s _ (λ a ha.
     bytes-then Q (l .output) [] 36 (a .rest) _ (λ o ho.
-    holds-if Q (empty (o .rest)) _ _
-    (λ e. record {
+    record {
       salt = ha .permitted;
       output = ho .permitted;
       salt-bytes = ha .bytes;
       output-bytes = ho .bytes;
       order = ordered (a .found) (o .found) s (a .rest) (ha .stands .here) (ha .nothing) (ho .nothing);
-      stands =
+      stands = λ e.
           ha .stands .here ∙ ap (λ (x : List ℕ). tagged (text "$") (writeBytes (a .found)) ++ x)
           (ho .stands .here ∙ ap (λ (x : List ℕ). tagged (text "$") (writeBytes (o .found)) ++ x) (nothing (o .rest) e));
-    })
-    (λ e. tt)))
+    }))
 
 -- ---- the whole
 
@@ -162,12 +160,13 @@ module _ (e : List Profile) (ok : sound e ≡ true) where
       holds-then (HeadStands r k u) (Found e s) (headIn e k u) _ (head-stands e k u (entry-at e ok k (N .1))) (λ n hn.
       holds-then (KeysStand l (n .mark) (n .rest)) (Found e s) (keysIn l (n .mark) (n .rest)) _ (keys-stand l (n .mark) (n .rest)) (λ y hy.
       holds-then (HashesStand l (y .rest)) (Found e s) (hashesIn l (y .rest)) _ (hashes-stand l (y .rest)) (λ h hh.
+      holds-if (Found e s) (empty (h .rest)) _ _ (λ z.
       let c = hn .numbers in
       let f = fieldSet (n .found) (y .found .first) (y .found .second) (h .found .first) (h .found .second) in
       let row = stands-append (c .stands) (hy .stands) in
       let same-rest : u ≡ restText l f =
       hn .here ∙ ap (λ (x : List ℕ). tagged (text "$") (writeVersion (n .found .version)) ++ x)
-      (row .here ∙ ap (items 36 (fiveItems l (n .found) (y .found .first) (y .found .second))) (hh .stands)) in
+      (row .here ∙ ap (items 36 (fiveItems l (n .found) (y .found .first) (y .found .second))) (hh .stands z)) in
       found e s f r (ap (profileOf e) (c .id)) (
       record {
         id = N .1;
@@ -183,7 +182,7 @@ module _ (e : List Profile) (ok : sound e ≡ true) where
         order = hh .order;
       }
       ) (hy .keyid-bytes, hy .ad-bytes, hh .salt-bytes, hh .output-bytes)
-      (pieces-row l (r .name) f ∙ ap (λ (x : List ℕ). 36 ∷ (x ++ restText l f)) (N .0) ∙ ap (λ (x : List ℕ). 36 ∷ (name ++ x)) (sym same-rest) ∙ sym q)))))
+      (pieces-row l (r .name) f ∙ ap (λ (x : List ℕ). 36 ∷ (x ++ restText l f)) (N .0) ∙ ap (λ (x : List ℕ). 36 ∷ (name ++ x)) (sym same-rest) ∙ sym q)) (λ z. tt)))))
 
   walked-stands : (s : List ℕ) → Holds (Found e s) (walked e s)
   unfolding walked

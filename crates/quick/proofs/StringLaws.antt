@@ -24,7 +24,7 @@ use Rattle.profile.specs.declared.limits.BytesRule.the-variants.{Sized, Barred}
 use Rattle.profile.specs.declared.limits.Limits.{Limits}
 use Rattle.profile.specs.declared.fields.Fields.{Fields}
 use Rattle.profile.specs.declared.fields.Contents.{Contents}
-use Rattle.quick.specs.Walk.{run, starts, andThen, Taken, taken, writtenBytes, bytesIn, Pair, keysIn, hashesIn, withStrings}
+use Rattle.quick.specs.Walk.{run, starts, andThen, Taken, taken, writtenBytes, bytesIn, Pair, pairIn, keysIn, hashesIn, withStrings}
 use Rattle.quick.specs.WalkSteps.{textAt, bytesAt, Ran, most, Stored, StoredTwo, contentsFor, contentsOf, roomy, StoredAll}
 use Rattle.quick.specs.Claims.{mostBytes}
 use Rattle.quick.proofs.Runs.{run-length}
@@ -119,62 +119,30 @@ over-two : (out₀ out₁ out₂ : List ℕ) (from middle : ℕ) (a b : List ℕ
     → out₂ ≡ over out₁ middle b → out₂ ≡ over out₀ from (a ++ b)
 over-two out₀ out₁ out₂ from middle a b h p q w = w ∙ rw (p, q) (over-over out₀ from a b h)
 
-module _ (l : Limits) (mark : ℕ) (s : List ℕ) (at : ℕ) (out₀ : List ℕ) where
-  pub no-keyid : bytesIn (l .keyid) (text "keyid=") mark (drop at s) ≡ none → keysIn l mark (drop at s) ≡ none
-  unfolding keysIn
-  no-keyid e = rw e
+module _ (a : BytesRule) (a-name : List ℕ) (b : BytesRule) (b-name : List ℕ) (pieces : Bool) (mark : ℕ) (s : List ℕ) (at : ℕ) (out₀ : List ℕ) (from : ℕ) where
+  pub no-first : bytesIn a a-name mark (drop at s) ≡ none → pairIn a a-name b b-name pieces mark (drop at s) ≡ none
+  unfolding pairIn
+  no-first e = rw e
 
-  module _ (out₁ : List ℕ) (next k then : ℕ)
-      (x : Stored (bytesIn (l .keyid) (text "keyid=") mark (drop at s)) (most (l .keyid)) s out₀ 0 out₁ next k then) where
-    pub no-data : bytesIn (l .ad) (text "data=") then (drop next s) ≡ none → keysIn l mark (drop at s) ≡ none
-    unfolding keysIn
-    no-data e = rw (x .found, e)
+  module _ (out₁ : List ℕ) (next middle then : ℕ) (x : Stored (bytesIn a a-name mark (drop at s)) (most a) s out₀ from out₁ next middle then) (second : ℕ) (q : second ≡ cond pieces 36 then) where
+    pub no-second : bytesIn b b-name second (drop next s) ≡ none → pairIn a a-name b b-name pieces mark (drop at s) ≡ none
+    unfolding pairIn
+    no-second e = rw (x .found, ← q, e)
 
-    pub both-keys : (out₂ : List ℕ) (last d m : ℕ) → Stored (bytesIn (l .ad) (text "data=") then (drop next s)) (most (l .ad)) s out₁ k out₂ last d m
-        → StoredTwo (keysIn l mark (drop at s)) (most (l .keyid) + most (l .ad)) s out₀ 0 out₂ last k d
-    unfolding keysIn
-    both-keys out₂ last d m y =
+    pub both-strings : from ≤ length out₀ → (out₂ : List ℕ) (last end m : ℕ) → Stored (bytesIn b b-name second (drop next s)) (most b) s out₁ middle out₂ last end m
+        → StoredTwo (pairIn a a-name b b-name pieces mark (drop at s)) (most a + most b) s out₀ from out₂ last middle end
+    unfolding pairIn
+    both-strings h out₂ last end m y =
         record {
           pair = record { first = x .bytes; second = y .bytes };
           mark = m;
-          found = rw (x .found, y .found);
+          found = rw (x .found, ← q, y .found);
           inside = y .inside;
           small = omega (arith, x .small, y .small);
           middle-is = x .end-is;
           end-is = y .end-is;
-          stored = over-two out₀ out₁ out₂ 0 k (x .bytes) (y .bytes) (omega arith) (x .stored) (x .end-is) (y .stored);
+          stored = over-two out₀ out₁ out₂ from middle (x .bytes) (y .bytes) h (x .stored) (x .end-is) (y .stored);
         }
-
-module _ (l : Limits) (s : List ℕ) (at : ℕ) (out₀ : List ℕ) (from : ℕ) where
-  pub no-salt : bytesIn (l .salt) [] 36 (drop at s) ≡ none → hashesIn l (drop at s) ≡ none
-  unfolding hashesIn
-  no-salt e = rw e
-
-  module _ (out₁ : List ℕ) (next k then : ℕ) (x : Stored (bytesIn (l .salt) [] 36 (drop at s)) (most (l .salt)) s out₀ from out₁ next k then) where
-    pub no-output : bytesIn (l .output) [] 36 (drop next s) ≡ none → hashesIn l (drop at s) ≡ none
-    unfolding hashesIn
-    no-output e = rw (x .found, e)
-
-    module _ (out₂ : List ℕ) (last d m : ℕ) (y : Stored (bytesIn (l .output) [] 36 (drop next s)) (most (l .output)) s out₁ k out₂ last d m) where
-      pub more-left : (last ≡ length s → ⊥) → hashesIn l (drop at s) ≡ none
-      unfolding hashesIn
-      more-left h =
-          rw (x .found, y .found, some-empty (drop last s) (λ z. h (omega (arith, length-drop last s, y .inside))))
-
-      pub both-hashes : from ≤ length out₀ → last ≡ length s → StoredTwo (hashesIn l (drop at s)) (most (l .salt) + most (l .output)) s out₀ from out₂ last k d
-      unfolding hashesIn
-      both-hashes r h =
-          let z : drop last s ≡ [] = ap (λ (i : ℕ). drop i s) h ∙ drop-length s in
-          record {
-            pair = record { first = x .bytes; second = y .bytes };
-            mark = 36;
-            found = rw (x .found, y .found, z);
-            inside = y .inside;
-            small = omega (arith, x .small, y .small);
-            middle-is = x .end-is;
-            end-is = y .end-is;
-            stored = over-two out₀ out₁ out₂ from k (x .bytes) (y .bytes) r (x .stored) (x .end-is) (y .stored);
-          }
 
 -- ---- all four
 
@@ -193,10 +161,14 @@ module _ (l : Limits) (f : Fields) (mark : ℕ) (s : List ℕ) (at : ℕ) (out�
       pub ordered : (k ≤ d) × (d ≤ e) × (e ≤ g)
       ordered = (omega (arith, x .end-is), omega (arith, y .middle-is), omega (arith, y .end-is))
 
-      pub all-strings : roomy l ≤ length out₀ → (c : Contents) → c ≡ contentsFor f k (d - k) (e - d) (g - e)
+      pub text-left : (last ≡ length s → ⊥) → withStrings l (taken f mark (drop at s)) ≡ none
+      text-left h = rw (x .found, y .found, some-empty (drop last s) (λ z. h (omega (arith, length-drop last s, y .inside))))
+
+      pub all-strings : roomy l ≤ length out₀ → last ≡ length s → (c : Contents) → c ≡ contentsFor f k (d - k) (e - d) (g - e)
           → StoredAll (withStrings l (taken f mark (drop at s))) out₀ out₂ c
       unfolding found
-      all-strings room c q =
+      all-strings room h c q =
+          let z : drop last s ≡ [] = ap (λ (i : ℕ). drop i s) h ∙ drop-length s in
           let a : k ≡ length (x .pair .first) = omega (arith, x .middle-is) in
           let b : d - k ≡ length (x .pair .second) = omega (arith, x .end-is) in
           let i : e - d ≡ length (y .pair .first) = omega (arith, y .middle-is) in
@@ -204,7 +176,7 @@ module _ (l : Limits) (f : Fields) (mark : ℕ) (s : List ℕ) (at : ℕ) (out�
           let n = length-append (x .pair .first) (x .pair .second) in
           record {
             fields = found;
-            found = rw (x .found, y .found);
+            found = rw (x .found, y .found, z);
             contents-are = q ∙ (λ t. contentsFor f (a t) (b t) (i t) (j t));
             room =
                 omega (

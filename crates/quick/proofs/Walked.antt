@@ -26,7 +26,7 @@ use Rattle.profile.proofs.Kept.{here}
 use Rattle.profile.proofs.Table.{Entry, entry-at, known-id}
 use Rattle.profile.proofs.Written.{written}
 use Rattle.profile.proofs.Accepted.{accepted}
-use Rattle.quick.specs.Walk.{starts, taken, versionIn, numbersIn, keysIn, hashesIn, headIn, afterId, walked, WalkAgrees}
+use Rattle.quick.specs.Walk.{starts, taken, versionIn, numbersIn, pairIn, keysIn, hashesIn, headIn, afterId, walked, WalkAgrees}
 use Rattle.quick.proofs.Starts.{Begins, Mark, find-behind}
 use Rattle.quick.proofs.ItemTexts.{Named, markAfter, items, marks, begins-tagged, begins-items, mark-after, marks-mark, Behind, closed-items, starts-fresh, costItems, keyItems, fiveItems, hashesText, restText, pieces-row}
 use Rattle.quick.proofs.Taken.{encode-alphabet, bytes-reads, version-reads, number-item, bytes-item}
@@ -112,7 +112,7 @@ module _ (e : List Profile) (f : FieldSet) (E : Entry e (f .numbers .id) (here e
       )
 
   keys-read : keysIn limits next (items next keys hashes) ≡ some (taken (record { first = f .keyid; second = f .ad }) (marks next keys) hashes)
-  unfolding keysIn
+  unfolding pairIn
   keys-read =
       let n = f .numbers in
       let r = here e f in
@@ -125,8 +125,8 @@ module _ (e : List Profile) (f : FieldSet) (E : Entry e (f .numbers .id) (here e
         bytes-item (text "data=") (markAfter next k) [] hashes (mark-after next k c) behind-items refl (r .ad) (f .ad) (P .ad) (b .1),
       )
 
-  hashes-read : hashesIn limits hashes ≡ some (taken (record { first = f .salt; second = f .output }) 36 [])
-  unfolding hashesIn
+  hashes-read : hashesIn limits hashes ≡ some (taken (record { first = f .salt; second = f .output }) (markAfter 36 (writeBytes (f .output))) [])
+  unfolding pairIn
   hashes-read =
       let r = here e f in
       let b = P .bytes in

@@ -106,32 +106,33 @@ numbersIn l k v s =
 
 -- ---- the four byte strings, up to the end
 
--- two byte strings one after the other: keyid and data, or salt and output
 pub record Pair : Type 0 where
   pub first : List ℕ
   pub second : List ℕ
 
-unfoldable pub keysIn : Limits → ℕ → List ℕ → Option (Taken Pair)
-keysIn l mark s =
-    andThen (bytesIn (l .keyid) (text "keyid=") mark s) (λ (k : Taken (List ℕ)).
-    andThen (bytesIn (l .ad) (text "data=") (k .mark) (k .rest)) (λ (d : Taken (List ℕ)).
-    some (taken (record { first = k .found; second = d .found }) (d .mark) (d .rest))))
+-- two byte strings, one after the other; the second has its own `$` where they are pieces
+unfoldable pub pairIn : BytesRule → List ℕ → BytesRule → List ℕ → Bool → ℕ → List ℕ → Option (Taken Pair)
+pairIn a a-name b b-name pieces mark s =
+    andThen (bytesIn a a-name mark s) (λ (x : Taken (List ℕ)).
+    andThen (bytesIn b b-name (cond pieces 36 (x .mark)) (x .rest)) (λ (y : Taken (List ℕ)).
+    some (taken (record { first = x .found; second = y .found }) (y .mark) (y .rest))))
 
-unfoldable pub hashesIn : Limits → List ℕ → Option (Taken Pair)
-hashesIn l s =
-    andThen (bytesIn (l .salt) [] 36 s) (λ (a : Taken (List ℕ)).
-    andThen (bytesIn (l .output) [] 36 (a .rest)) (λ (o : Taken (List ℕ)).
-    cond (empty (o .rest)) (some (taken (record { first = a .found; second = o .found }) 36 [])) none))
+abbrev pub keysIn : Limits → ℕ → List ℕ → Option (Taken Pair)
+keysIn l mark s = pairIn (l .keyid) (text "keyid=") (l .ad) (text "data=") false mark s
 
--- ---- the whole
+abbrev pub hashesIn : Limits → List ℕ → Option (Taken Pair)
+hashesIn l s = pairIn (l .salt) [] (l .output) [] true 36 s
 
+-- nothing is left after them
 abbrev pub withStrings : Limits → Taken Fields → Option FieldSet
 withStrings l n =
     andThen (keysIn l (n .mark) (n .rest)) (λ (k : Taken Pair).
     andThen (hashesIn l (k .rest)) (λ (h : Taken Pair).
-    some (fieldSet (n .found) (k .found .first) (k .found .second) (h .found .first) (h .found .second))))
+    cond (empty (h .rest)) (some (fieldSet (n .found) (k .found .first) (k .found .second) (h .found .first) (h .found .second))) none))
 
--- version, numbers and byte strings after the id with the number k
+-- ---- the whole
+
+-- version and numbers after the id with the number k
 unfoldable pub headIn : List Profile → ℕ → List ℕ → Option (Taken Fields)
 headIn e k s =
     andThen (versionIn (profileOf e k) s) (λ (v : Taken Version). numbersIn (limitsOf (profileOf e k)) k (v .found) (v .rest))

@@ -1,12 +1,13 @@
-// The four byte strings: keyid and data among the parameters, then salt and output, up to the end of the string.
+// Two byte strings, one after the other: keyid and data among the parameters, or salt and output.
 use crate::items::BytesItem;
 use crate::items::bytes_item;
-use profile::limits::Limits;
+use profile::limits::BytesRule;
 ghost use Prim.Native.Nat.{_+_, _≤_};
 ghost use mathlib.Core.Path.{_≡_};
+ghost use mathlib.Core.Bool.{cond};
 ghost use lib.ListN.{length, drop};
 ghost use Rattle.grammar.specs.B64.{Sextets};
-ghost use Rattle.quick.specs.Walk.{keysIn, hashesIn};
+ghost use Rattle.quick.specs.Walk.{pairIn};
 ghost use Rattle.quick.specs.WalkSteps.{most, TwoAre};
 
 // The place after two byte strings, and the places after the bytes of the first and of the second.
@@ -15,49 +16,37 @@ pub enum Two {
     To(usize, usize, usize),
 }
 
-pub fn keys(table: &[u8; 256], limits: Limits, s: &[u8], at: usize, mark: u8, out: &mut [u8]) -> Two
-    requires { ⌜ (at ≤ length (now s)) × (most (limits .keyid) + most (limits .ad) + 2 ≤ length (now out)) ⌝ }
-    requires { ⌜ Sextets (now table) ⌝ }
-    ensures { λ r. ⌜ TwoAre (keysIn limits mark (drop at (now (s .entry)))) (most (limits .keyid) + most (limits .ad)) (now (s .entry)) (now (out .entry)) 0 (now (out .exit)) r ⌝ }
+// A piece has its own `$`; a parameter has the mark that the item before it leaves.
+fn second_mark(pieces: bool, then: u8) -> u8
+    ensures { λ r. ⌜ r ≡ cond pieces 36 then ⌝ }
 {
-    let keyid = limits.keyid;
-    let ad = limits.ad;
-    match bytes_item(table, keyid, b"keyid=", s, at, mark, out, 0) {
-        BytesItem::No => Two::No,
-        BytesItem::To(next, k, then) => {
-            match bytes_item(table, ad, b"data=", s, next, then, out, k) {
-                BytesItem::No => Two::No,
-                BytesItem::To(last, d, _) => Two::To(last, k, d),
-            }
-        }
-    }
+    if pieces { b'$' } else { then }
 }
 
-pub fn hashes(
+pub fn two_items(
     table: &[u8; 256],
-    limits: Limits,
+    a: BytesRule,
+    a_name: &[u8],
+    b: BytesRule,
+    b_name: &[u8],
+    pieces: bool,
     s: &[u8],
     at: usize,
+    mark: u8,
     out: &mut [u8],
     from: usize,
 ) -> Two
-    requires { ⌜ (at ≤ length (now s)) × (from + most (limits .salt) + most (limits .output) + 2 ≤ length (now out)) ⌝ }
+    requires { ⌜ (at ≤ length (now s)) × (from + most a + most b + 2 ≤ length (now out)) ⌝ }
     requires { ⌜ Sextets (now table) ⌝ }
-    ensures { λ r. ⌜ TwoAre (hashesIn limits (drop at (now (s .entry)))) (most (limits .salt) + most (limits .output)) (now (s .entry)) (now (out .entry)) from (now (out .exit)) r ⌝ }
+    ensures { λ r. ⌜ TwoAre (pairIn a (now («a_name» .entry)) b (now («b_name» .entry)) pieces mark (drop at (now (s .entry)))) (most a + most b) (now (s .entry)) (now (out .entry)) from (now (out .exit)) r ⌝ }
 {
-    let salt = limits.salt;
-    let output = limits.output;
-    match bytes_item(table, salt, b"", s, at, b'$', out, from) {
+    match bytes_item(table, a, a_name, s, at, mark, out, from) {
         BytesItem::No => Two::No,
-        BytesItem::To(next, e, _) => {
-            match bytes_item(table, output, b"", s, next, b'$', out, e) {
+        BytesItem::To(next, middle, then) => {
+            let second = second_mark(pieces, then);
+            match bytes_item(table, b, b_name, s, next, second, out, middle) {
                 BytesItem::No => Two::No,
-                BytesItem::To(last, g, _) => {
-                    if last == s.len() {
-                        return Two::To(last, e, g);
-                    }
-                    Two::No
-                }
+                BytesItem::To(last, end, _) => Two::To(last, middle, end),
             }
         }
     }

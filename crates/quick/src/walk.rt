@@ -5,8 +5,7 @@ use crate::items::number_item;
 use crate::numeral::Numeral;
 use crate::numeral::number;
 use crate::strings::Two;
-use crate::strings::hashes;
-use crate::strings::keys;
+use crate::strings::two_items;
 use grammar::scan::next_at;
 use grammar::units::Bytes;
 use profile::fields::Contents;
@@ -143,7 +142,7 @@ fn contents_for(fields: Fields, keyid: usize, ad: usize, salt: usize, output: us
     }
 }
 
-// The byte strings after the number fields.
+// The byte strings after the number fields, up to the end.
 fn with_strings(
     table: &[u8; 256],
     limits: Limits,
@@ -157,12 +156,35 @@ fn with_strings(
     requires { ⌜ Sextets (now table) ⌝ }
     ensures { λ r. ⌜ FoundIn (withStrings limits (taken fields mark (drop at (now (s .entry))))) (now (out .entry)) (now (out .exit)) r ⌝ }
 {
-    match keys(table, limits, s, at, mark, out) {
+    let keyid = limits.keyid;
+    let ad = limits.ad;
+    let salt = limits.salt;
+    let output = limits.output;
+    match two_items(
+        table,
+        keyid,
+        b"keyid=",
+        ad,
+        b"data=",
+        false,
+        s,
+        at,
+        mark,
+        out,
+        0,
+    ) {
         Two::No => Walk::Nothing,
-        Two::To(next, k, d) => match hashes(table, limits, s, next, out, d) {
-            Two::No => Walk::Nothing,
-            Two::To(_, e, g) => Walk::Found(contents_for(fields, k, d, e, g)),
-        },
+        Two::To(next, k, d) => {
+            match two_items(table, salt, b"", output, b"", true, s, next, b'$', out, d) {
+                Two::No => Walk::Nothing,
+                Two::To(last, e, g) => {
+                    if last == s.len() {
+                        return Walk::Found(contents_for(fields, k, d, e, g));
+                    }
+                    Walk::Nothing
+                }
+            }
+        }
     }
 }
 

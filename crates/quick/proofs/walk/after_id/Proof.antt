@@ -44,7 +44,7 @@ returns-3 c =
     let k = w .before .before .before in
     let h = k .before .before in
     let q = rw (k .fields .given .1) at (h .head-at .ensures) in
-    rw (after-some _ _ (h .before .before .if1 .left) _ _ (q .0), ← h .before .limits-of .ensures) (w .with-strings .ensures)
+    rw (after-some _ _ (h .before .before .if1 .left) _ _ (h .before .limits-of .ensures) _ (q .0)) (w .with-strings .ensures)
 
 pub after-id-spec : {M : Type 1} → statement M
 after-id-spec =

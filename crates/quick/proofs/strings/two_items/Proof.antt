@@ -1,13 +1,10 @@
--- `quick::strings::keys` meets its contract. Assumes nothing.
+-- `quick::strings::two_items` meets its contract. Assumes nothing.
 use mathlib.Core.Path.{_≡_}
 use native.Mathlib.Omega.{arith}
-use Rattle.quick.proofs.StringLaws.{stored-size, no-keyid, no-data, both-keys}
+use Rattle.quick.proofs.StringLaws.{stored-size, no-first, no-second, both-strings}
 use borrow.Author.Needs.{needs}
-use Rattle.quick.proofs.strings.keys.Statement.{statement}
-use Rattle.quick.proofs.strings.keys.Tie as tie
-
-slice-aggregate-bytes-item : tie.Need-slice-aggregate-bytes-item
-slice-aggregate-bytes-item c = search needs
+use Rattle.quick.proofs.strings.two_items.Statement.{statement}
+use Rattle.quick.proofs.strings.two_items.Tie as tie
 
 bytes-item-requires : tie.Need-bytes-item-requires
 bytes-item-requires c κs = search needs
@@ -18,14 +15,14 @@ enum-told c = search needs
 enum-known-next : tie.Need-enum-known-next
 enum-known-next c = search needs
 
-slice-aggregate-bytes-item-2 : tie.Need-slice-aggregate-bytes-item-2
-slice-aggregate-bytes-item-2 c = search needs
+second-mark-requires : tie.Need-second-mark-requires
+second-mark-requires c κs = search needs
 
 bytes-item-requires-2 : tie.Need-bytes-item-requires-2
 bytes-item-requires-2 c κs =
     let n = c .before .before .before in
     let b = n .before .before .before .before in
-    let st = b .before .before .before .before .before in
+    let st = b .before .before .before .before .before .before in
     let h = rw (n .next .given .1) at (b .bytes-item .ensures) in
     let z = stored-size _ _ _ _ _ _ _ _ _ h (omega (arith, st .pre .0 .1)) in
     ((h .inside, omega (arith, z, h .end-is, h .small, st .pre .0 .1)), st .pre .1)
@@ -42,8 +39,8 @@ same-length c = search needs
 returns : tie.Need-returns
 returns c =
     let b = c .before .before .before .before in
-    let a = b .before .before .before .before .before .args in
-    no-keyid (a .limits) (a .mark) (a .s .now) (a .at) (a .out .now) (rw (c .enum-told .given .1) at (b .bytes-item .ensures))
+    let a = b .before .before .before .before .before .before .args in
+    no-first (a .a) (a .a-name .now) (a .b) (a .b-name .now) (a .pieces) (a .mark) (a .s .now) (a .at) (a .out .now) (a .from) (rw (c .enum-told .given .1) at (b .bytes-item .ensures))
 
 same-length-2 : tie.Need-same-length-2
 same-length-2 c = search needs
@@ -51,11 +48,13 @@ same-length-2 c = search needs
 returns-2 : tie.Need-returns-2
 returns-2 c =
     let d = c .before .before .before .before in
-    let n = d .before .before .before .before in
+    let m = d .before .before in
+    let n = m .before .before in
     let b = n .before .before .before .before in
-    let a = b .before .before .before .before .before .args in
+    let a = b .before .before .before .before .before .before .args in
     let h = rw (n .next .given .1) at (b .bytes-item .ensures) in
-    no-data (a .limits) (a .mark) (a .s .now) (a .at) (a .out .now) _ _ _ _ h (rw (c .enum-told2 .given .1) at (d .bytes-item2 .ensures))
+    no-second (a .a) (a .a-name .now) (a .b) (a .b-name .now) (a .pieces) (a .mark) (a .s .now) (a .at) (a .out .now) (a .from) _ _ _ _ h _ (m .second-mark .ensures)
+    (rw (c .enum-told2 .given .1) at (d .bytes-item2 .ensures))
 
 same-length-3 : tie.Need-same-length-3
 same-length-3 c = search needs
@@ -64,22 +63,24 @@ returns-3 : tie.Need-returns-3
 returns-3 c =
     let l = c .before in
     let d = l .before .before .before .before in
-    let n = d .before .before .before .before in
+    let m = d .before .before in
+    let n = m .before .before in
     let b = n .before .before .before .before in
-    let a = b .before .before .before .before .before .args in
+    let st = b .before .before .before .before .before .before in
+    let a = st .args in
     let h = rw (n .next .given .1) at (b .bytes-item .ensures) in
     let y = rw (l .last .given .1) at (d .bytes-item2 .ensures) in
-    both-keys (a .limits) (a .mark) (a .s .now) (a .at) (a .out .now) _ _ _ _ h _ _ _ _ y
+    both-strings (a .a) (a .a-name .now) (a .b) (a .b-name .now) (a .pieces) (a .mark) (a .s .now) (a .at) (a .out .now) (a .from) _ _ _ _ h _ (m .second-mark .ensures)
+    (omega (arith, st .pre .0 .1)) _ _ _ _ y
 
-pub keys-spec : {M : Type 1} → statement M
-keys-spec =
+pub two-items-spec : {M : Type 1} → statement M
+two-items-spec =
     tie.close
     (tie.spec
-    slice-aggregate-bytes-item
     bytes-item-requires
     enum-told
     enum-known-next
-    slice-aggregate-bytes-item-2
+    second-mark-requires
     bytes-item-requires-2
     enum-told-2
     enum-known-last
