@@ -5,7 +5,7 @@ use mathlib.Core.List.{List, _++_}
 use mathlib.Core.Path.{_≡_, refl, sym, ap, _∙_}
 use native.Mathlib.Omega.{arith}
 use lib.ListN.{length}
-use Rattle.grammar.specs.Place.{Outcome, outcome, refused, over, put, putAfter}
+use Rattle.grammar.specs.Place.{Outcome, outcome, over, put, putAfter}
 use Rattle.grammar.proofs.Over.{over-over, length-over}
 use Rattle.grammar.proofs.Writing.{put-refused, put-clear, put-full, put-done, put-fits}
 use Rattle.profile.specs.Limits.{editionTwo}

@@ -7,15 +7,15 @@ use mathlib.Core.Path.{_≡_, refl, sym, ap, _∙_}
 use native.Mathlib.Omega.{arith}
 use lib.Dec.{eqb}
 use lib.ListN.{length}
-use borrow.Author.Tests.{eqb-true, eqb-false, eq-eqb, ne-eqb}
-use Rattle.grammar.specs.Place.{Outcome, outcome, refused, over, put, putAfter}
+use borrow.Author.Tests.{eqb-true, eqb-false, eq-eqb}
+use Rattle.grammar.specs.Place.{Outcome, over, putAfter}
 use Rattle.grammar.proofs.Writing.{put-refused, put-clear, put-full, put-done, after-zero}
 use Rattle.profile.specs.Limits.{editionTwo}
 use Rattle.profile.specs.Reader.{answer, fieldsOf}
 use Rattle.profile.specs.Entries.{reading, joinedBytes, counted, refusedContents, allDecoded, contents}
 use Rattle.profile.proofs.ReadLaws.{reading-number}
 use Rattle.profile.specs.declared.fields.Contents.{Contents}
-use Rattle.exports.specs.Records.{recordBytes, countBytes, wholeLength, Whole, whole, recordedWhole}
+use Rattle.exports.specs.Records.{recordBytes, countBytes, wholeLength, whole, recordedWhole}
 
 -- the number of the contents is that of the bytes
 contents-number : (s buffer : List ℕ) → contents editionTwo s buffer 0 .reading .number ≡ allDecoded editionTwo s buffer 0 .number

@@ -1,7 +1,7 @@
 -- The walk's fields as the entries' outcomes: what the reader gives, and all that a string carries.
 -- Assumes nothing.
-use Prim.Native.Nat.{ℕ, _+_, _-_, _≤_, _<_}
-use mathlib.Core.Path.{_≡_, refl, sym, ap, _∙_, subst}
+use Prim.Native.Nat.{ℕ, _+_, _-_, _≤_}
+use mathlib.Core.Path.{_≡_, refl, sym, ap, _∙_}
 use mathlib.Core.Bool.{Bool, true, false, cond}
 use mathlib.Core.List.{List, [], _∷_, _++_}
 use mathlib.Core.Option.{Option, none, some}
@@ -9,16 +9,14 @@ use native.Mathlib.Omega.{arith}
 use lib.Dec.{eqb}
 use lib.ListN.{length, take, drop, length-append}
 use lib.Seq.{take-append-seam}
-use borrow.Author.Tests.{eqb-true, eqb-false, ne-eqb}
+use borrow.Author.Tests.{eqb-true, ne-eqb}
 use Rattle.grammar.specs.Place.{Outcome, outcome, refused, over, put, putAfter}
 use Rattle.grammar.proofs.Over.{over-start, length-over}
 use Rattle.grammar.proofs.Writing.{put-clear, put-refused}
 use Rattle.profile.specs.Limits.{editionTwo}
 use Rattle.profile.specs.Fields.{FieldSet, writeBytes}
 use Rattle.profile.specs.Reader.{answer, fieldsOf}
-use Rattle.profile.specs.Writer.{formatted}
 use Rattle.profile.specs.Entries.{kindOf, reading, joinedBytes, counted, refusedContents, allDecoded, contents}
-use Rattle.profile.specs.Claims.{EntriesAgree}
 use Rattle.profile.proofs.Table.{edition-two-sound}
 use Rattle.profile.proofs.ReadLaws.{reading-number}
 use Rattle.profile.proofs.Claims.{entries-agree-two}

@@ -6,16 +6,14 @@ use mathlib.Core.Path.{_≡_}
 use mathlib.Core.List.{List, [], _∷_, _++_}
 use native.Mathlib.Omega.{arith}
 use lib.ListN.{length, length-append}
-use Rattle.profile.specs.Limits.{limitsOf, profileOf, editionTwo}
-use Rattle.profile.specs.Fields.{FieldSet}
-use Rattle.profile.specs.Reader.{answer, fieldsOf}
+use Rattle.profile.specs.Limits.{profileOf, editionTwo}
+use Rattle.profile.specs.Reader.{fieldsOf}
 use Rattle.profile.specs.Writer.{bytesAllowed}
-use Rattle.profile.specs.Entries.{joinedBytes}
 use Rattle.profile.specs.declared.limits.BytesRule.{BytesRule}
 use Rattle.profile.proofs.Table.{edition-two-sound}
 use Rattle.profile.proofs.Accepted.{accepted}
 use Rattle.quick.specs.WalkSteps.{most}
-use Rattle.quick.specs.Claims.{mostBytes, QuickAgrees}
+use Rattle.quick.specs.Claims.{QuickAgrees}
 use Rattle.quick.proofs.StringLaws.{small, roomy-two}
 use Rattle.quick.proofs.Walked.{walk-agrees}
 

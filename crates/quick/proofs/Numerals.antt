@@ -5,7 +5,6 @@ use mathlib.Core.Path.{_≡_, refl, sym, ap, _∙_}
 use mathlib.Core.Bool.{true, false, and-false}
 use mathlib.Core.List.{List, [], _∷_}
 use mathlib.Core.Option.{none, some}
-use native.Mathlib.Numerals.{add-one}
 use native.Mathlib.Omega.{arith}
 use native.Mathlib.Nat.{add-zero}
 use lib.Dec.{leb}
@@ -17,7 +16,7 @@ use Rattle.grammar.specs.Decimal.{isUnsigned, valueFrom, value}
 use Rattle.grammar.proofs.Tests.{to-within}
 use Rattle.grammar.proofs.DigitSteps.{unsigned-none, unsigned-zero, unsigned-other, value-grows}
 use Rattle.profile.specs.Limits.{largest32}
-use Rattle.quick.specs.Walk.{run, numeralIn}
+use Rattle.quick.specs.Walk.{numeralIn}
 use Rattle.quick.specs.WalkSteps.{digitsAt, Counted}
 use Rattle.quick.proofs.Runs.{run-go, run-stop, run-past, run-all, run-length, run-first}
 

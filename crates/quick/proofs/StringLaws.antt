@@ -5,27 +5,25 @@ use mathlib.Core.Path.{_≡_, refl, sym, ap, _∙_}
 use mathlib.Core.Bool.{Bool, true, false, not, cond, _&&_, and-false}
 use mathlib.Core.List.{List, [], _∷_, _++_, append-assoc}
 use mathlib.Core.Option.{Option, none, some}
-use native.Mathlib.Nat.{add-zero}
 use native.Mathlib.Omega.{arith}
 use lib.Dec.{leb}
 use lib.ListN.{length, drop, length-drop, length-append}
 use lib.Seq.{drop-drop, drop-length}
-use borrow.Author.Tests.{leb-true, lt-leb}
-use Rattle.grammar.specs.Text.{text, empty}
-use Rattle.grammar.specs.B64.{inAlphabet, canonical, decode}
+use borrow.Author.Tests.{lt-leb}
+use Rattle.grammar.specs.Text.{empty}
+use Rattle.grammar.specs.B64.{inAlphabet, canonical}
 use Rattle.grammar.specs.Place.{over}
-use Rattle.grammar.proofs.Tests.{both, from-within}
+use Rattle.grammar.proofs.Tests.{from-within}
 use Rattle.grammar.proofs.Over.{over-nil, over-over, length-over}
 use Rattle.profile.specs.Limits.{isSize, limitsOf, profileOf, editionTwo}
 use Rattle.profile.specs.Fields.{FieldSet, fieldSet}
-use Rattle.profile.specs.Entries.{joinedBytes}
 use Rattle.profile.specs.declared.limits.BytesRule.{BytesRule}
 use Rattle.profile.specs.declared.limits.BytesRule.the-variants.{Sized, Barred}
 use Rattle.profile.specs.declared.limits.Limits.{Limits}
 use Rattle.profile.specs.declared.fields.Fields.{Fields}
 use Rattle.profile.specs.declared.fields.Contents.{Contents}
-use Rattle.quick.specs.Walk.{run, starts, andThen, Taken, taken, writtenBytes, bytesIn, Pair, pairIn, keysIn, hashesIn, withStrings}
-use Rattle.quick.specs.WalkSteps.{textAt, bytesAt, Ran, most, Stored, StoredTwo, contentsFor, contentsOf, roomy, StoredAll}
+use Rattle.quick.specs.Walk.{starts, Taken, taken, writtenBytes, bytesIn, Pair, pairIn, keysIn, hashesIn, withStrings}
+use Rattle.quick.specs.WalkSteps.{textAt, bytesAt, Ran, most, Stored, StoredTwo, contentsFor, roomy, StoredAll}
 use Rattle.quick.specs.Claims.{mostBytes}
 use Rattle.quick.proofs.Runs.{run-length}
 use Rattle.quick.proofs.Chains.{bytes-absent}

@@ -6,20 +6,19 @@ use mathlib.Core.Path.{_≡_}
 use mathlib.Core.Bool.{true, cond}
 use mathlib.Core.List.{List, [], _∷_, _++_}
 use mathlib.Core.Option.{Option, none, some}
-use lib.Dec.{leb, eqb}
+use lib.Dec.{eqb}
 use lib.ListN.{length, take, drop}
 use Rattle.grammar.specs.Bytes.{isDigit}
 use Rattle.grammar.specs.Decimal.{value}
 use Rattle.grammar.specs.B64.{inAlphabet, canonical, decode}
 use Rattle.grammar.specs.Place.{over, put}
-use Rattle.profile.specs.Fields.{FieldSet, writeBytes}
-use Rattle.profile.specs.Entries.{kindOf, joinedBytes, refusedContents, counted}
+use Rattle.profile.specs.Fields.{FieldSet}
+use Rattle.profile.specs.Entries.{joinedBytes, refusedContents}
 use Rattle.profile.specs.declared.limits.BytesRule.{BytesRule}
 use Rattle.profile.specs.declared.limits.BytesRule.the-variants.{Sized, Barred}
 use Rattle.profile.specs.declared.limits.Limits.{Limits}
 use Rattle.profile.specs.declared.fields.Version.{Version}
 use Rattle.profile.specs.declared.fields.Fields.{Fields}
-use Rattle.profile.specs.declared.fields.Reading.{Reading}
 use Rattle.profile.specs.declared.fields.Contents.{Contents}
 use Rattle.quick.specs.Walk.{run, Taken, taken, numeralIn, Pair}
 use Rattle.quick.specs.declared.numeral.Numeral.{Numeral}

@@ -3,7 +3,7 @@ use native.Mathlib.Omega.{arith}
 use mathlib.Core.Path.{_≡_, ap, _∙_}
 use borrow.Author.Needs.{needs}
 use denote.Ref.{now}
-use Rattle.grammar.specs.Place.{Outcome, outcome}
+use Rattle.grammar.specs.Place.{outcome}
 use Rattle.profile.specs.Limits.{editionTwo}
 use Rattle.profile.specs.Fields.{FieldSet, fieldSet}
 use Rattle.profile.specs.Entries.{writing}

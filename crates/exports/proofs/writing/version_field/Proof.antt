@@ -1,5 +1,5 @@
 -- `exports::writing::version_field` meets its contract. Assumes nothing.
-use borrow.Author.Tests.{eq-eqb, ne-eqb}
+use borrow.Author.Tests.{ne-eqb}
 use Rattle.exports.proofs.writing.version_field.Statement.{statement}
 use Rattle.exports.proofs.writing.version_field.Tie as tie
 

@@ -1,6 +1,5 @@
 -- `quick::numeral::number` meets its contract. Assumes nothing.
 use Prim.Native.Nat.{_-_, _≤_}
-use mathlib.Core.Path.{_≡_}
 use native.Mathlib.Omega.{arith}
 use lib.ListN.{length}
 use Rattle.quick.proofs.Numerals.{below-digits, above-digits, Counting, counting-start, counting-digit, counting-stop, counting-end, counting-large, numeral-past}

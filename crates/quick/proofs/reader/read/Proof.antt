@@ -1,5 +1,4 @@
 -- `quick::reader::read` meets its contract. Assumes nothing.
-use mathlib.Core.Path.{_≡_}
 use Rattle.quick.proofs.Answers.{found-reading}
 use borrow.Author.Needs.{needs}
 use Rattle.quick.proofs.reader.read.Statement.{statement}

@@ -1,5 +1,4 @@
 -- `quick::reader::read_all` meets its contract. Assumes nothing.
-use mathlib.Core.Path.{_≡_}
 use Rattle.quick.proofs.Answers.{all-refused, found-room, all-found}
 use borrow.Author.Needs.{needs}
 use Rattle.quick.proofs.reader.read_all.Statement.{statement}

@@ -1,5 +1,5 @@
 -- `quick::reader::store` meets its contract. Assumes nothing.
-use mathlib.Core.Path.{_≡_, refl}
+use mathlib.Core.Path.{refl}
 use Rattle.quick.proofs.Answers.{store-full, store-done}
 use borrow.Author.Needs.{needs}
 use Rattle.quick.proofs.reader.store.Statement.{statement}

@@ -1,5 +1,4 @@
 -- `quick::strings::two_items` meets its contract. Assumes nothing.
-use mathlib.Core.Path.{_≡_}
 use native.Mathlib.Omega.{arith}
 use Rattle.quick.proofs.StringLaws.{stored-size, no-first, no-second, both-strings}
 use borrow.Author.Needs.{needs}

@@ -1,5 +1,4 @@
 -- `quick::walk::after_id` meets its contract. Assumes nothing.
-use mathlib.Core.Path.{_≡_}
 use native.Mathlib.Omega.{arith}
 use Rattle.quick.proofs.Chains.{after-none, after-some}
 use Rattle.quick.proofs.StringLaws.{roomy-two}

@@ -1,6 +1,5 @@
 -- `quick::walk::kind_for` meets its contract. Assumes nothing.
 use borrow.Author.Tests.{ne-eqb}
-use borrow.Author.Needs.{needs}
 use Rattle.quick.proofs.walk.kind_for.Statement.{statement}
 use Rattle.quick.proofs.walk.kind_for.Tie as tie
 

@@ -1,5 +1,4 @@
 -- `quick::walk::with_strings` meets its contract. Assumes nothing.
-use mathlib.Core.Path.{_≡_}
 use native.Mathlib.Omega.{arith}
 use Rattle.quick.proofs.StringLaws.{stored-two-size, no-keys, no-hashes, ordered, text-left, all-strings}
 use borrow.Author.Needs.{needs}
