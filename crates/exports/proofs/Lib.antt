@@ -2,3 +2,4 @@ pub mod CodeLaws
 pub mod SizeLaws
 pub mod RecordLaws
 pub mod WholeLaws
+pub mod Claims

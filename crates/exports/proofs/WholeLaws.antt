@@ -9,13 +9,23 @@ use lib.Dec.{eqb}
 use lib.ListN.{length}
 use borrow.Author.Tests.{eqb-true, eqb-false, eq-eqb}
 use Rattle.grammar.specs.Place.{Outcome, over, putAfter}
-use Rattle.grammar.proofs.Writing.{put-refused, put-clear, put-full, put-done, after-zero}
+use Rattle.grammar.proofs.Writing.{put-refused, put-clear, put-full, put-done, after-zero, after-done}
 use Rattle.profile.specs.Limits.{editionTwo}
 use Rattle.profile.specs.Reader.{answer, fieldsOf}
 use Rattle.profile.specs.Entries.{reading, joinedBytes, counted, refusedContents, allDecoded, contents}
 use Rattle.profile.proofs.ReadLaws.{reading-number}
 use Rattle.profile.specs.declared.fields.Contents.{Contents}
 use Rattle.exports.specs.Records.{recordBytes, countBytes, wholeLength, whole, recordedWhole}
+
+-- the number, where the bytes fit
+pub number-left : (n : ℕ) (buffer bytes : List ℕ) → (n ≡ 0 → length bytes ≤ length buffer) → putAfter n buffer 0 bytes .number ≡ n
+number-left n buffer bytes h = go (eqb n 0) refl
+  where
+    go : (b : Bool) → eqb n 0 ≡ b → putAfter n buffer 0 bytes .number ≡ n
+    go true t =
+        let z = eqb-true n 0 t in
+        ap (λ (o : Outcome). o .number) (after-done n buffer 0 bytes z (omega (arith, h z))) ∙ sym z
+    go false t = sym (ap (λ (o : Outcome). o .number) (put-refused buffer 0 bytes n n refl (omega (arith, eqb-false n 0 t))))
 
 -- the number of the contents is that of the bytes
 contents-number : (s buffer : List ℕ) → contents editionTwo s buffer 0 .reading .number ≡ allDecoded editionTwo s buffer 0 .number
@@ -63,24 +73,14 @@ module _ (s «record» buffer : List ℕ) where
           let q = put-refused «record» 0 told (reading editionTwo s .number) (reading editionTwo s .number) refl (omega (arith, z)) in
           rw e (stopped (reading editionTwo s .number) (omega (arith, z)) (sym (ap (λ (o : Outcome). o .number) q)))
 
-  module _ (h : wholeLength ≤ length «record») (c : Contents) (e : c ≡ contents editionTwo s buffer 0) (left : List ℕ) (w : left ≡ allDecoded editionTwo s buffer 0 .buffer) where
-    -- the record fits: the number is the reader's
-    fits-number : fits .number ≡ answer editionTwo s
-    fits-number = go (eqb (reading editionTwo s .number) 0) refl
-      where
-        go : (b : Bool) → eqb (reading editionTwo s .number) 0 ≡ b → fits .number ≡ answer editionTwo s
-        go true t =
-            let z = eqb-true (reading editionTwo s .number) 0 t in
-            let q = put-done «record» 0 told (omega arith) wholeLength refl (over «record» 0 told) refl ∙ sym (put-clear «record» 0 told (reading editionTwo s .number) z) in
-            sym (ap (λ (o : Outcome). o .number) q) ∙ sym z ∙ reading-number editionTwo s
-        go false t =
-            let z = eqb-false (reading editionTwo s .number) 0 t in
-            let q = put-refused «record» 0 told (reading editionTwo s .number) (reading editionTwo s .number) refl (omega (arith, z)) in
-            sym (ap (λ (o : Outcome). o .number) q) ∙ reading-number editionTwo s
+  -- the record fits: the number is the reader's
+  pub fits-number : wholeLength ≤ length «record» → fits .number ≡ answer editionTwo s
+  fits-number h = number-left (reading editionTwo s .number) «record» told (λ z. omega arith) ∙ reading-number editionTwo s
 
+  module _ (h : wholeLength ≤ length «record») (c : Contents) (e : c ≡ contents editionTwo s buffer 0) (left : List ℕ) (w : left ≡ allDecoded editionTwo s buffer 0 .buffer) where
     bytes-are : putAfter (fits .number) buffer 0 (joinedBytes (fieldsOf editionTwo s)) ≡ allDecoded editionTwo s buffer 0
     unfolding allDecoded
-    bytes-are = ap (λ (n : ℕ). putAfter n buffer 0 (joinedBytes (fieldsOf editionTwo s))) fits-number
+    bytes-are = ap (λ (n : ℕ). putAfter n buffer 0 (joinedBytes (fieldsOf editionTwo s))) (fits-number h)
 
     number-is : c .reading .number ≡ allDecoded editionTwo s buffer 0 .number
     number-is = ap (λ (x : Contents). x .reading .number) e ∙ contents-number s buffer
