@@ -1,6 +1,7 @@
 /* PHC hash strings of the profiles argon2d, argon2i, argon2id, pbkdf2s2 and pbkdf2s3, read and written.
  *
- * Any bytes may be handed over. NULL with the length 0 is an empty slice. Buffers must not overlap each other or the string.
+ * Any bytes may be handed over. Each pointer is valid for its length; NULL with the length 0 is an empty slice. A buffer that is written
+ * must not overlap any other argument.
  * A refusal changes no byte. Numbers are those of README.md, 'The numbers'.
  */
 #ifndef PHC_H

@@ -18,6 +18,9 @@ use std::fmt::Debug;
 use std::ops::RangeInclusive;
 use std::process::exit;
 
+/// The strings that the programs `known` and `records` run, a line each.
+const KNOWN_FILES: [&[u8]; 2] = [include_bytes!("../crates/known/stdin"), include_bytes!("../crates/records/stdin")];
+
 const KNOWN: [(&str, u64); 16] = [
     ("$argon2i$m=120,t=5000,p=2$/LtFjH5rVL8", 0),
     ("$argon2i$m=120,t=5000,p=2,keyid=Hj5+dsK0ZQA", 0),
@@ -504,6 +507,9 @@ fn known(run: &mut Run) {
         let library = unsafe { phc_read(string.ptr(), string.len, record.ptr(), record.len) };
         run.same("the library's number of a known string", &input, &library, &number);
         run.compare_string(s.as_bytes());
+    }
+    for s in KNOWN_FILES.iter().flat_map(|file| file.split(|b| *b == b'\n')) {
+        run.compare_string(s);
     }
 }
 

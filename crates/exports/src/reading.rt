@@ -1,4 +1,5 @@
 // Reading: the record of a string, and each of its byte strings.
+use crate::record::RECORD_LEN;
 use crate::record::put_record;
 use profile::fields::ByteString;
 use profile::reader::byte_string;
@@ -19,7 +20,7 @@ pub extern "C" fn phc_read(s: &[u8], record: &mut [u8]) -> u64
     if number != 0 {
         return number as u64;
     }
-    if record.len() < 20 {
+    if record.len() < RECORD_LEN {
         return 17;
     }
     put_record(r, record);

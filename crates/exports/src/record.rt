@@ -11,6 +11,11 @@ ghost use lib.ListN.{length};
 ghost use Rattle.grammar.specs.Place.{over};
 ghost use Rattle.exports.specs.Records.{versionFlag, versionNumber, words, headBytes, recordBytes, countBytes, recordLength, wholeLength};
 
+// The bytes of a record, and of one with the counts after it.
+pub const RECORD_LEN: usize = 20;
+
+pub const WHOLE_LEN: usize = 36;
+
 // The lowest eight bits.
 fn low(n: usize) -> u8
     ensures { λ r. ⌜ r ≡ n % 256 ⌝ }
@@ -100,6 +105,6 @@ pub fn put_whole(c: Contents, out: &mut [u8])
     write_text(
         &four_words(c.keyid.0, c.ad.0, c.salt.0, c.output.0),
         out,
-        20,
+        RECORD_LEN,
     );
 }

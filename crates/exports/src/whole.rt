@@ -1,4 +1,5 @@
 // All that a string carries, in one call: the record with the counts after it, and the four byte strings.
+use crate::record::WHOLE_LEN;
 use crate::record::put_whole;
 use quick::reader::read;
 use quick::reader::read_all;
@@ -22,12 +23,12 @@ fn number_or_full(s: &[u8]) -> u64
 }
 
 // 0, the record and the counts in the first 36 bytes, and keyid, data, salt and output, one after the other, in the buffer from its start; or
-// the reader's number, then 17. The string is read once.
+// the reader's number, then 17.
 #[no_mangle]
 pub extern "C" fn phc_read_all(s: &[u8], record: &mut [u8], buf: &mut [u8]) -> u64
     ensures { λ r. ⌜ whole r (now («record» .exit)) (now (buf .exit)) ≡ recordedWhole (now (s .entry)) (now («record» .entry)) (now (buf .entry)) ⌝ }
 {
-    if record.len() < 36 {
+    if record.len() < WHOLE_LEN {
         return number_or_full(s);
     }
     let c = read_all(s, buf, 0);

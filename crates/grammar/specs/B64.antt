@@ -71,8 +71,8 @@ decode (a ∷ b ∷ []) = byte0 a b ∷ []
 decode (a ∷ b ∷ c ∷ []) = byte0 a b ∷ byte1 b c ∷ []
 decode (a ∷ b ∷ c ∷ d ∷ t) = byte0 a b ∷ byte1 b c ∷ byte2 c d ∷ decode t
 
--- the 24 bits of a group of four sextets; 2^24 where one of them is 255, for a byte outside the alphabet.
--- Free answer: of numbers from 64 to 254, which are no sextets, what the sum says
+-- the 24 bits of a group of four sextets; 2^24 where one of them is 255, for a byte outside the alphabet: four sextets sum to at most 252.
+-- Free answer: for numbers from 64 to 254, which are no sextets, the same formula where the sum is at most 252, else 2^24
 abbrev pub groupOf : ℕ → ℕ → ℕ → ℕ → ℕ
 groupOf a b c d = cond (leb (a + b + c + d) 252) ((a * 64 + b) * 4096 + (c * 64 + d)) 16777216
 

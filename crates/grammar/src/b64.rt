@@ -160,7 +160,8 @@ fn wide(x: u8) -> u32
     x as u32
 }
 
-// The 24 bits of a group of four sextets, as one number; 2^24 where one of them is 255. One comparison tests all four.
+// The 24 bits of a group of four sextets, as one number; 2^24 where one of them is 255. One comparison tests all four: they sum to at most
+// 4 * 63.
 pub fn group(a: u8, b: u8, c: u8, d: u8) -> u32
     ensures { λ r. ⌜ r ≡ groupOf a b c d ⌝ }
 {

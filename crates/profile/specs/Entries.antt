@@ -66,7 +66,8 @@ writing e f buffer at = putAfter (refusal e f) buffer at (formatted e f)
 unfoldable pub shortWriting : List Profile → ℕ → List ℕ → List ℕ → List ℕ → ℕ → Outcome
 shortWriting e k salt output buffer at = putAfter (shortRefusal e k salt output) buffer at (formatted e (shortFields e k salt output))
 
--- ---- all in one: the reader's answer, how many bytes each byte string has, and the four, one after the other, from the place on
+-- ---- all in one, which the library `quick` gives: the reader's answer, how many bytes each byte string has, and the four byte strings, one
+-- after the other, from the place on; 1 to 15, then 17, with zeros
 
 abbrev pub joinedBytes : FieldSet → List ℕ
 joinedBytes f = f .keyid ++ (f .ad ++ (f .salt ++ f .output))

@@ -1,4 +1,4 @@
--- The walk: a good string read from its first byte to its last, each text taken as it stands next. What it finds is what the rules say
+-- The walk: an accepted string read from its first byte to its last, each text taken as it stands next. What it finds is what the rules say
 -- (`WalkAgrees`), so no public contract cites the walk itself.
 -- Assumes nothing.
 use Prim.Native.Nat.{ℕ, suc, _*_}
@@ -28,7 +28,7 @@ abbrev pub run : (ℕ → Bool) → List ℕ → List ℕ
 run f [] = []
 run f (c ∷ s) = cond (f c) (c ∷ run f s) []
 
--- a text begins with another
+-- the second text begins with the first
 abbrev pub starts : List ℕ → List ℕ → Bool
 starts [] t = true
 starts (c ∷ l) [] = false
@@ -53,7 +53,7 @@ taken found mark rest = record { found = found; mark = mark; rest = rest }
 unfoldable pub numeralIn : List ℕ → Option (ℕ × List ℕ)
 numeralIn t = let d = run isDigit t in cond (isUnsigned d && leb (value d) largest32) (some (value d, drop (length d) t)) none
 
--- the number stands in the string: it is no parameter that is left out for what it is
+-- a number of the rule is written: it is a parameter, and not the number that stands for one left out
 abbrev pub isWritten : NumberRule → ℕ → Bool
 isWritten (Needed low high) n = true
 isWritten (Omitted low high given) n = not (eqb n given)
@@ -94,7 +94,7 @@ unfoldable pub versionIn : Profile → List ℕ → Option (Taken Version)
 versionIn r t =
     cond (starts (text "$v=") t) (andThen (numeralIn (drop 3 t)) (λ (x : ℕ × List ℕ). allowed r (Number (x .0)) (x .1))) (allowed r Absent t)
 
--- ---- m, t and p, and eight kilobytes for each lane
+-- ---- m, t and p, and m at least 8p
 
 unfoldable pub numbersIn : Limits → ℕ → Version → List ℕ → Option (Taken Fields)
 numbersIn l k v s =

@@ -47,16 +47,17 @@ pub fn number(s: &[u8], at: usize) -> Numeral
     let mut i = at;
     while i < s.len() {
         let c = s[i];
-        if c < 48 {
+        if c < b'0' {
             return finished(s, at, n, i);
         }
-        if 57 < c {
+        if b'9' < c {
             return finished(s, at, n, i);
         }
+        // one digit more would pass 2^32 - 1
         if 429496729 < n {
             return Numeral::No;
         }
-        n = n * 10 + wide(c - 48);
+        n = n * 10 + wide(c - b'0');
         i += 1;
     }
     finished(s, at, n, i)

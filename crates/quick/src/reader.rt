@@ -76,7 +76,7 @@ fn store(c: Contents, out: &[u8], buf: &mut [u8], at: usize) -> Contents
 }
 
 // The profile reader's answer, how many bytes each byte string has, and keyid, data, salt and output, one after the other, in `buf` from `at`
-// on. 1 to 15, then 17. The string is read once.
+// on. 1 to 15, then 17. An accepted string is read once; a refused one is read again for its number.
 pub fn read_all(s: &[u8], buf: &mut [u8], at: usize) -> Contents
     ensures { λ r. ⌜ (r ≡ contents editionTwo (now (s .entry)) (now (buf .entry)) at) × (now (buf .exit) ≡ allDecoded editionTwo (now (s .entry)) (now (buf .entry)) at .buffer) ⌝ }
 {

@@ -26,7 +26,7 @@ fn sextet_of(table: &[u8; 256], c: u8) -> u8
     table[c as usize]
 }
 
-// The sextet at a place; past the end it is that of the byte 0, which is none.
+// The sextet at a place; 255 past the end, as for a byte outside the alphabet.
 fn sextet_at(table: &[u8; 256], s: &[u8], i: usize) -> u8
     requires { ⌜ Sextets (now table) ⌝ }
     ensures { λ r. ⌜ r ≡ sextet (getD (now (s .entry)) i 0) ⌝ }

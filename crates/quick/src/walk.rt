@@ -125,20 +125,26 @@ fn kind_for(salt: usize, output: usize) -> u8
 }
 
 // The answer for fields whose byte strings end at these places in their buffer.
-fn contents_for(fields: Fields, keyid: usize, ad: usize, salt: usize, output: usize) -> Contents
-    requires { ⌜ (keyid ≤ ad) × (ad ≤ salt) × (salt ≤ output) ⌝ }
-    ensures { λ r. ⌜ r ≡ contentsFor fields keyid (ad - keyid) (salt - ad) (output - salt) ⌝ }
+fn contents_for(
+    fields: Fields,
+    keyid_end: usize,
+    ad_end: usize,
+    salt_end: usize,
+    output_end: usize,
+) -> Contents
+    requires { ⌜ («keyid_end» ≤ «ad_end») × («ad_end» ≤ «salt_end») × («salt_end» ≤ «output_end») ⌝ }
+    ensures { λ r. ⌜ r ≡ contentsFor fields «keyid_end» («ad_end» - «keyid_end») («salt_end» - «ad_end») («output_end» - «salt_end») ⌝ }
 {
     Contents {
         reading: Reading {
             number: 0,
-            kind: kind_for(salt - ad, output - salt),
+            kind: kind_for(salt_end - ad_end, output_end - salt_end),
             fields,
         },
-        keyid: Bytes(keyid),
-        ad: Bytes(ad - keyid),
-        salt: Bytes(salt - ad),
-        output: Bytes(output - salt),
+        keyid: Bytes(keyid_end),
+        ad: Bytes(ad_end - keyid_end),
+        salt: Bytes(salt_end - ad_end),
+        output: Bytes(output_end - salt_end),
     }
 }
 

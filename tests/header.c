@@ -1,0 +1,23 @@
+/* The header as a C program sees it: it compiles without a warning, declares what the archive exports, and its numbers are right. */
+#include "phc.h"
+
+_Static_assert(PHC_ROOM == 265, "the longest string");
+_Static_assert(PHC_RECORD == 20, "kind, id, flag, 0 and four numbers");
+_Static_assert(PHC_RECORD_ALL == PHC_RECORD + 16, "and four counts");
+_Static_assert(PHC_BYTES == 8 + 32 + 48 + 64, "keyid, data, salt and output");
+
+int main(void) {
+    static const uint8_t string[] = "$pbkdf2s2$AAAAAA$AAAAAAAAAAAAAAAA";
+    uint8_t record[PHC_RECORD_ALL], bytes[PHC_BYTES], again[PHC_ROOM];
+    const size_t len = sizeof string - 1;
+
+    return phc_read(NULL, 0, record, PHC_RECORD) != 1
+        || phc_read(string, len, record, PHC_RECORD) != 0
+        || phc_read_all(string, len, record, sizeof record, bytes, sizeof bytes) != 0
+        || record[0] != 3 || record[1] != 4 || record[28] != 4 || record[32] != 12
+        || phc_keyid(string, len, bytes, sizeof bytes) != 0
+        || phc_data(string, len, bytes, sizeof bytes) != 0
+        || phc_salt(string, len, bytes, sizeof bytes) != 400
+        || phc_output(string, len, bytes + 4, sizeof bytes - 4) != 1200
+        || phc_write(4, 0, 0, 0, 20000, 0, NULL, 0, NULL, 0, bytes, 4, bytes + 4, 12, again, sizeof again) != 100 * len;
+}
