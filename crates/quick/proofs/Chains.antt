@@ -20,7 +20,7 @@ use Rattle.profile.specs.declared.fields.Version.the-variants.{Absent, Number}
 use Rattle.profile.specs.declared.fields.Fields.{Fields}
 use Rattle.quick.specs.Walk.{starts, andThen, Taken, taken, numeralIn, isWritten, writtenNumber, leftOut, numberIn, writtenBytes, bytesIn, allowed, versionIn, numbersIn, headIn, withStrings, afterId, walked}
 
--- what stands after a mark and a name
+-- what stands after a separator and a name
 rest-at : (s name : List ℕ) (at : ℕ) → drop (suc (length name)) (drop at s) ≡ drop (at + 1 + length name) s
 rest-at s name at =
     let e : at + suc (length name) ≡ at + 1 + length name = omega arith in
@@ -38,24 +38,24 @@ module _ (r : NumberRule) (o : Option (ℕ × List ℕ)) (n : ℕ) (t : List ℕ
   pub number-written : inRange r n ≡ true → isWritten r n ≡ true → andThen o (writtenNumber r) ≡ some (taken n 44 t)
   number-written h w = rw (e, h, w)
 
-module _ (r : NumberRule) (name : List ℕ) (mark : ℕ) (s : List ℕ) (at : ℕ) where
-  pub number-there : starts (mark ∷ name) (drop at s) ≡ true
-      → numberIn r name mark (drop at s) ≡ andThen (numeralIn (drop (at + 1 + length name) s)) (writtenNumber r)
+module _ (r : NumberRule) (name : List ℕ) (separator : ℕ) (s : List ℕ) (at : ℕ) where
+  pub number-there : starts (separator ∷ name) (drop at s) ≡ true
+      → numberIn r name separator (drop at s) ≡ andThen (numeralIn (drop (at + 1 + length name) s)) (writtenNumber r)
   unfolding numberIn
   number-there e = rw (e, rest-at s name at)
 
-  pub number-absent : starts (mark ∷ name) (drop at s) ≡ false → numberIn r name mark (drop at s) ≡ leftOut r mark (drop at s)
+  pub number-absent : starts (separator ∷ name) (drop at s) ≡ false → numberIn r name separator (drop at s) ≡ leftOut r separator (drop at s)
   unfolding numberIn
   number-absent e = rw e
 
 -- ---- a byte string
 
-module _ (r : BytesRule) (name : List ℕ) (mark : ℕ) (s : List ℕ) (at : ℕ) where
-  pub bytes-there : starts (mark ∷ name) (drop at s) ≡ true → bytesIn r name mark (drop at s) ≡ writtenBytes r (drop (at + 1 + length name) s)
+module _ (r : BytesRule) (name : List ℕ) (separator : ℕ) (s : List ℕ) (at : ℕ) where
+  pub bytes-there : starts (separator ∷ name) (drop at s) ≡ true → bytesIn r name separator (drop at s) ≡ writtenBytes r (drop (at + 1 + length name) s)
   unfolding bytesIn
   bytes-there e = rw (e, rest-at s name at)
 
-  pub bytes-absent : starts (mark ∷ name) (drop at s) ≡ false → bytesIn r name mark (drop at s) ≡ some (taken [] mark (drop at s))
+  pub bytes-absent : starts (separator ∷ name) (drop at s) ≡ false → bytesIn r name separator (drop at s) ≡ some (taken [] separator (drop at s))
   unfolding bytesIn
   bytes-absent e = rw e
 

@@ -35,7 +35,7 @@ record NumbersStand (l : Limits) (k : ℕ) (v : Version) (s : List ℕ) (x : Tak
   t : inRange (l .t) (x .found .t) ≡ true
   p : inRange (l .p) (x .found .p) ≡ true
   lanes : 8 * x .found .p ≤ x .found .m
-  stands : Stands 36 (costItems l (x .found)) s (x .mark) (x .rest)
+  stands : Stands 36 (costItems l (x .found)) s (x .separator) (x .rest)
 
 numbers-stand : (l : Limits) (k : ℕ) (v : Version) (s : List ℕ) → soundNumber (l .m) ≡ true → soundNumber (l .t) ≡ true → soundNumber (l .p) ≡ true
     → Holds (NumbersStand l k v s) (numbersIn l k v s)
@@ -43,8 +43,8 @@ unfolding numbersIn
 numbers-stand l k v s sm st sp =
     let Q = NumbersStand l k v s in
     number-then Q (l .m) sm (text "m=") 36 s _ (λ m hm.
-    number-then Q (l .t) st (text "t=") (m .mark) (m .rest) _ (λ t ht.
-    number-then Q (l .p) sp (text "p=") (t .mark) (t .rest) _ (λ p hp.
+    number-then Q (l .t) st (text "t=") (m .separator) (m .rest) _ (λ t ht.
+    number-then Q (l .p) sp (text "p=") (t .separator) (t .rest) _ (λ p hp.
     holds-if Q (leb (8 * p .found) (m .found)) _ _
     (λ e. record {
       id = refl;
@@ -57,19 +57,19 @@ numbers-stand l k v s sm st sp =
     })
     (λ e. tt))))
 
-record KeysStand (l : Limits) (mark : ℕ) (s : List ℕ) (x : Taken Pair) : Type 0 where
+record KeysStand (l : Limits) (separator : ℕ) (s : List ℕ) (x : Taken Pair) : Type 0 where
   keyid : bytesAllowed (l .keyid) (x .found .first) ≡ true
   ad : bytesAllowed (l .ad) (x .found .second) ≡ true
   keyid-bytes : all isByte (x .found .first) ≡ true
   ad-bytes : all isByte (x .found .second) ≡ true
-  stands : Stands mark (keyItems (x .found .first) (x .found .second)) s (x .mark) (x .rest)
+  stands : Stands separator (keyItems (x .found .first) (x .found .second)) s (x .separator) (x .rest)
 
-keys-stand : (l : Limits) (mark : ℕ) (s : List ℕ) → Holds (KeysStand l mark s) (keysIn l mark s)
+keys-stand : (l : Limits) (separator : ℕ) (s : List ℕ) → Holds (KeysStand l separator s) (keysIn l separator s)
 unfolding pairIn
-keys-stand l mark s =
-    let Q = KeysStand l mark s in
-    bytes-then Q (l .keyid) (text "keyid=") mark s _ (λ k hk.
-    bytes-then Q (l .ad) (text "data=") (k .mark) (k .rest) _ (λ d hd.
+keys-stand l separator s =
+    let Q = KeysStand l separator s in
+    bytes-then Q (l .keyid) (text "keyid=") separator s _ (λ k hk.
+    bytes-then Q (l .ad) (text "data=") (k .separator) (k .rest) _ (λ d hd.
     record {
       keyid = hk .permitted;
       ad = hd .permitted;
@@ -158,7 +158,7 @@ module _ (e : List Profile) (ok : sound e ≡ true) where
       holds-if (Found e s) (eqb k 0) _ _ (λ z. tt) (λ z.
       let N = name-of e name z in
       holds-then (HeadStands r k u) (Found e s) (headIn e k u) _ (head-stands e k u (entry-at e ok k (N .1))) (λ n hn.
-      holds-then (KeysStand l (n .mark) (n .rest)) (Found e s) (keysIn l (n .mark) (n .rest)) _ (keys-stand l (n .mark) (n .rest)) (λ y hy.
+      holds-then (KeysStand l (n .separator) (n .rest)) (Found e s) (keysIn l (n .separator) (n .rest)) _ (keys-stand l (n .separator) (n .rest)) (λ y hy.
       holds-then (HashesStand l (y .rest)) (Found e s) (hashesIn l (y .rest)) _ (hashes-stand l (y .rest)) (λ h hh.
       holds-if (Found e s) (empty (h .rest)) _ _ (λ z.
       let c = hn .numbers in

@@ -35,16 +35,16 @@ module _ (l t : List ℕ) (i j : ℕ) (h : i < length l) (k : j < length t) wher
   pub starts-other : (getD t j 0 ≡ getD l i 0 → ⊥) → starts (drop i l) (drop j t) ≡ false
   starts-other e = rw (drop-cons l i 0 h, drop-cons t j 0 k, ne-eqb (getD t j 0) (getD l i 0) e)
 
--- a mark and a text after it
-module _ (mark : ℕ) (l t : List ℕ) (j : ℕ) where
-  pub mark-past : length t ≤ j → false ≡ starts (mark ∷ l) (drop j t)
-  mark-past h = rw (drop-of-length-le)
+-- a separator and a text after it
+module _ (separator : ℕ) (l t : List ℕ) (j : ℕ) where
+  pub separator-past : length t ≤ j → false ≡ starts (separator ∷ l) (drop j t)
+  separator-past h = rw (drop-of-length-le)
 
-  pub mark-other : j < length t → (getD t j 0 ≡ mark → ⊥) → false ≡ starts (mark ∷ l) (drop j t)
-  mark-other k e = rw (drop-cons t j 0 k, ne-eqb (getD t j 0) mark e)
+  pub separator-other : j < length t → (getD t j 0 ≡ separator → ⊥) → false ≡ starts (separator ∷ l) (drop j t)
+  separator-other k e = rw (drop-cons t j 0 k, ne-eqb (getD t j 0) separator e)
 
-  pub mark-same : j < length t → getD t j 0 ≡ mark → (b : Bool) → b ≡ starts l (drop (j + 1) t) → b ≡ starts (mark ∷ l) (drop j t)
-  mark-same k e b q = rw (drop-cons t j 0 k, eq-eqb (getD t j 0) mark e, ← add-one j) q
+  pub separator-same : j < length t → getD t j 0 ≡ separator → (b : Bool) → b ≡ starts l (drop (j + 1) t) → b ≡ starts (separator ∷ l) (drop j t)
+  separator-same k e b q = rw (drop-cons t j 0 k, eq-eqb (getD t j 0) separator e, ← add-one j) q
 
 -- ---- the elements of a class at a place
 

@@ -69,52 +69,52 @@ written-slot (Omitted low high given) n e = rw (is-false (eqb n given) e)
 written-slot (Fixed given) n e = absurd (false≢true e)
 
 abbrev pub NumberStands : NumberRule → List ℕ → ℕ → List ℕ → Taken ℕ → Type 0
-NumberStands r name mark t x = (inRange r (x .found) ≡ true) × Stands mark ((name, writeNumber r (x .found)) ∷ []) t (x .mark) (x .rest)
+NumberStands r name separator t x = (inRange r (x .found) ≡ true) × Stands separator ((name, writeNumber r (x .found)) ∷ []) t (x .separator) (x .rest)
 
-left-stands : (r : NumberRule) → soundNumber r ≡ true → (name : List ℕ) (mark : ℕ) (t : List ℕ) → Holds (NumberStands r name mark t) (leftOut r mark t)
-left-stands (Needed low high) k name mark t = tt
-left-stands (Omitted low high given) k name mark t =
+left-stands : (r : NumberRule) → soundNumber r ≡ true → (name : List ℕ) (separator : ℕ) (t : List ℕ) → Holds (NumberStands r name separator t) (leftOut r separator t)
+left-stands (Needed low high) k name separator t = tt
+left-stands (Omitted low high given) k name separator t =
     let e = eq-eqb given given refl in
     (both (leb high largest32) (within low high given) k .1, record { here = rw e; after = rw e })
-left-stands (Fixed given) k name mark t = (to-within given given given (omega arith) (omega arith), record { here = refl; after = refl })
+left-stands (Fixed given) k name separator t = (to-within given given given (omega arith) (omega arith), record { here = refl; after = refl })
 
-number-stands : (r : NumberRule) → soundNumber r ≡ true → (name : List ℕ) (mark : ℕ) (t : List ℕ) → Holds (NumberStands r name mark t) (numberIn r name mark t)
+number-stands : (r : NumberRule) → soundNumber r ≡ true → (name : List ℕ) (separator : ℕ) (t : List ℕ) → Holds (NumberStands r name separator t) (numberIn r name separator t)
 unfolding numberIn
-number-stands r k name mark t =
+number-stands r k name separator t =
     let u = drop (suc (length name)) t in
-    holds-if _ (starts (mark ∷ name) t) _ _
+    holds-if _ (starts (separator ∷ name) t) _ _
     (λ s. holds-then (λ (y : ℕ × List ℕ). u ≡ digits (y .0) ++ y .1) _ (numeralIn u) (writtenNumber r) (numeral-stands u) (λ y h.
     holds-if _ (inRange r (y .0) && isWritten r (y .0)) _ _
     (λ e. let q = both (inRange r (y .0)) (isWritten r (y .0)) e in
     let w = written-slot r (y .0) (q .1) in
-    (q .0, record { here = rw w (behind (mark ∷ name) t (digits (y .0)) (y .1) s h); after = rw w }))
+    (q .0, record { here = rw w (behind (separator ∷ name) t (digits (y .0)) (y .1) s h); after = rw w }))
     (λ e. tt)))
-    (λ s. left-stands r k name mark t)
+    (λ s. left-stands r k name separator t)
 
-pub number-then : {B : Type 0} (Q : B → Type 0) (r : NumberRule) → soundNumber r ≡ true → (name : List ℕ) (mark : ℕ) (t : List ℕ) (f : Taken ℕ → Option B)
-    → ((x : Taken ℕ) → NumberStands r name mark t x → Holds Q (f x)) → Holds Q (andThen (numberIn r name mark t) f)
-number-then Q r k name mark t f h = holds-then (NumberStands r name mark t) Q (numberIn r name mark t) f (number-stands r k name mark t) h
+pub number-then : {B : Type 0} (Q : B → Type 0) (r : NumberRule) → soundNumber r ≡ true → (name : List ℕ) (separator : ℕ) (t : List ℕ) (f : Taken ℕ → Option B)
+    → ((x : Taken ℕ) → NumberStands r name separator t x → Holds Q (f x)) → Holds Q (andThen (numberIn r name separator t) f)
+number-then Q r k name separator t f h = holds-then (NumberStands r name separator t) Q (numberIn r name separator t) f (number-stands r k name separator t) h
 
 -- ---- one byte string
 
-pub record BytesStand (r : BytesRule) (name : List ℕ) (mark : ℕ) (t : List ℕ) (x : Taken (List ℕ)) : Type 0 where
+pub record BytesStand (r : BytesRule) (name : List ℕ) (separator : ℕ) (t : List ℕ) (x : Taken (List ℕ)) : Type 0 where
   pub permitted : bytesAllowed r (x .found) ≡ true
   pub bytes : all isByte (x .found) ≡ true
-  pub stands : Stands mark ((name, writeBytes (x .found)) ∷ []) t (x .mark) (x .rest)
-  -- there are none where the mark and the name don't stand there
-  pub nothing : empty (x .found) ≡ not (starts (mark ∷ name) t)
+  pub stands : Stands separator ((name, writeBytes (x .found)) ∷ []) t (x .separator) (x .rest)
+  -- there are none where the separator and the name don't stand there
+  pub nothing : empty (x .found) ≡ not (starts (separator ∷ name) t)
 
 filled-slot : (bs : List ℕ) → not (empty bs) ≡ true → writeBytes bs ≡ some (encode bs)
 filled-slot [] e = absurd (false≢true e)
 filled-slot (b ∷ bs) e = refl
 
-bytes-stand : (r : BytesRule) (name : List ℕ) (mark : ℕ) (t : List ℕ) → Holds (BytesStand r name mark t) (bytesIn r name mark t)
+bytes-stand : (r : BytesRule) (name : List ℕ) (separator : ℕ) (t : List ℕ) → Holds (BytesStand r name separator t) (bytesIn r name separator t)
 unfolding bytesIn
-bytes-stand r name mark t =
+bytes-stand r name separator t =
     let v = drop (suc (length name)) t in
     let u = run inAlphabet v in
     let bs = decode u in
-    holds-if _ (starts (mark ∷ name) t) _ _
+    holds-if _ (starts (separator ∷ name) t) _ _
     (λ s. holds-if _ (canonical u && (not (empty bs) && isSize r (length bs))) _ _
     (λ e. let p = both (canonical u) (not (empty bs) && isSize r (length bs)) e in
     let q = both (not (empty bs)) (isSize r (length bs)) (p .1) in
@@ -124,15 +124,15 @@ bytes-stand r name mark t =
     record {
       permitted = rw (n, q .1);
       bytes = bytes-decode u (p .0);
-      stands = record { here = rw w (behind (mark ∷ name) t (encode bs) (drop (length u) v) s h); after = rw w };
+      stands = record { here = rw w (behind (separator ∷ name) t (encode bs) (drop (length u) v) s h); after = rw w };
       nothing = rw (n, s);
     })
     (λ e. tt))
     (λ s. record { permitted = refl; bytes = refl; stands = record { here = refl; after = refl }; nothing = rw s })
 
-pub bytes-then : {B : Type 0} (Q : B → Type 0) (r : BytesRule) (name : List ℕ) (mark : ℕ) (t : List ℕ) (f : Taken (List ℕ) → Option B)
-    → ((x : Taken (List ℕ)) → BytesStand r name mark t x → Holds Q (f x)) → Holds Q (andThen (bytesIn r name mark t) f)
-bytes-then Q r name mark t f h = holds-then (BytesStand r name mark t) Q (bytesIn r name mark t) f (bytes-stand r name mark t) h
+pub bytes-then : {B : Type 0} (Q : B → Type 0) (r : BytesRule) (name : List ℕ) (separator : ℕ) (t : List ℕ) (f : Taken (List ℕ) → Option B)
+    → ((x : Taken (List ℕ)) → BytesStand r name separator t x → Holds Q (f x)) → Holds Q (andThen (bytesIn r name separator t) f)
+bytes-then Q r name separator t f h = holds-then (BytesStand r name separator t) Q (bytesIn r name separator t) f (bytes-stand r name separator t) h
 
 -- ---- the version
 

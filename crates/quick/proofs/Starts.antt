@@ -56,12 +56,12 @@ Begins P [] = Unit {0}
 Begins P (c ∷ t) = P c
 
 -- it is `$` or a comma: whatever class has neither has not this
-abbrev pub Mark : ℕ → Type 0
-Mark c = (f : ℕ → Bool) → f 36 ≡ false → f 44 ≡ false → f c ≡ false
+abbrev pub Separator : ℕ → Type 0
+Separator c = (f : ℕ → Bool) → f 36 ≡ false → f 44 ≡ false → f c ≡ false
 
--- no text of a class without marks goes on here
+-- no text of a class without separators goes on here
 abbrev pub Closed : List ℕ → Type 0
-Closed t = Begins Mark t
+Closed t = Begins Separator t
 
 pub run-closed : (f : ℕ → Bool) → f 36 ≡ false → f 44 ≡ false → (t : List ℕ) → Closed t → run f t ≡ []
 run-closed f p q [] h = refl

@@ -87,9 +87,9 @@ module _ (r : BytesRule) (s : List ℕ) (at : ℕ) (out₀ : List ℕ) (from : �
         }
 
 -- the buffer keeps its length
-pub stored-size : (o : Option (Taken (List ℕ))) (high : ℕ) (s out₀ : List ℕ) (from : ℕ) (out : List ℕ) (next end mark : ℕ)
-    → Stored o high s out₀ from out next end mark → from + high ≤ length out₀ → length out ≡ length out₀
-stored-size o high s out₀ from out next end mark x h = ap length (x .stored) ∙ length-over out₀ from (x .bytes) (omega (arith, x .small))
+pub stored-size : (o : Option (Taken (List ℕ))) (high : ℕ) (s out₀ : List ℕ) (from : ℕ) (out : List ℕ) (next end separator : ℕ)
+    → Stored o high s out₀ from out next end separator → from + high ≤ length out₀ → length out ≡ length out₀
+stored-size o high s out₀ from out next end separator x h = ap length (x .stored) ∙ length-over out₀ from (x .bytes) (omega (arith, x .small))
 
 pub stored-two-size : (o : Option (Taken Pair)) (high : ℕ) (s out₀ : List ℕ) (from : ℕ) (out : List ℕ) (next middle end : ℕ)
     → StoredTwo o high s out₀ from out next middle end → from + high ≤ length out₀ → length out ≡ length out₀
@@ -98,12 +98,12 @@ stored-two-size o high s out₀ from out next middle end x h =
     ∙ length-over out₀ from (x .pair .first ++ x .pair .second) (omega (arith, x .small, length-append (x .pair .first) (x .pair .second)))
 
 -- none stands there
-pub bytes-none : (r : BytesRule) (name : List ℕ) (mark : ℕ) (s : List ℕ) (at : ℕ) (out : List ℕ) (from : ℕ) → at ≤ length s
-    → starts (mark ∷ name) (drop at s) ≡ false → Stored (bytesIn r name mark (drop at s)) (most r) s out from out at from mark
-bytes-none r name mark s at out from h e =
+pub bytes-none : (r : BytesRule) (name : List ℕ) (separator : ℕ) (s : List ℕ) (at : ℕ) (out : List ℕ) (from : ℕ) → at ≤ length s
+    → starts (separator ∷ name) (drop at s) ≡ false → Stored (bytesIn r name separator (drop at s)) (most r) s out from out at from separator
+bytes-none r name separator s at out from h e =
     record {
       bytes = [];
-      found = bytes-absent r name mark s at e;
+      found = bytes-absent r name separator s at e;
       inside = h;
       small = omega arith;
       end-is = omega arith;
@@ -117,23 +117,23 @@ over-two : (out₀ out₁ out₂ : List ℕ) (from middle : ℕ) (a b : List ℕ
     → out₂ ≡ over out₁ middle b → out₂ ≡ over out₀ from (a ++ b)
 over-two out₀ out₁ out₂ from middle a b h p q w = w ∙ rw (p, q) (over-over out₀ from a b h)
 
-module _ (a : BytesRule) (a-name : List ℕ) (b : BytesRule) (b-name : List ℕ) (pieces : Bool) (mark : ℕ) (s : List ℕ) (at : ℕ) (out₀ : List ℕ) (from : ℕ) where
-  pub no-first : bytesIn a a-name mark (drop at s) ≡ none → pairIn a a-name b b-name pieces mark (drop at s) ≡ none
+module _ (a : BytesRule) (a-name : List ℕ) (b : BytesRule) (b-name : List ℕ) (pieces : Bool) (separator : ℕ) (s : List ℕ) (at : ℕ) (out₀ : List ℕ) (from : ℕ) where
+  pub no-first : bytesIn a a-name separator (drop at s) ≡ none → pairIn a a-name b b-name pieces separator (drop at s) ≡ none
   unfolding pairIn
   no-first e = rw e
 
-  module _ (out₁ : List ℕ) (next middle then : ℕ) (x : Stored (bytesIn a a-name mark (drop at s)) (most a) s out₀ from out₁ next middle then) (second : ℕ) (q : second ≡ cond pieces 36 then) where
-    pub no-second : bytesIn b b-name second (drop next s) ≡ none → pairIn a a-name b b-name pieces mark (drop at s) ≡ none
+  module _ (out₁ : List ℕ) (next middle then : ℕ) (x : Stored (bytesIn a a-name separator (drop at s)) (most a) s out₀ from out₁ next middle then) (second : ℕ) (q : second ≡ cond pieces 36 then) where
+    pub no-second : bytesIn b b-name second (drop next s) ≡ none → pairIn a a-name b b-name pieces separator (drop at s) ≡ none
     unfolding pairIn
     no-second e = rw (x .found, ← q, e)
 
     pub both-strings : from ≤ length out₀ → (out₂ : List ℕ) (last end m : ℕ) → Stored (bytesIn b b-name second (drop next s)) (most b) s out₁ middle out₂ last end m
-        → StoredTwo (pairIn a a-name b b-name pieces mark (drop at s)) (most a + most b) s out₀ from out₂ last middle end
+        → StoredTwo (pairIn a a-name b b-name pieces separator (drop at s)) (most a + most b) s out₀ from out₂ last middle end
     unfolding pairIn
     both-strings h out₂ last end m y =
         record {
           pair = record { first = x .bytes; second = y .bytes };
-          mark = m;
+          separator = m;
           found = rw (x .found, ← q, y .found);
           inside = y .inside;
           small = omega (arith, x .small, y .small);
@@ -144,12 +144,12 @@ module _ (a : BytesRule) (a-name : List ℕ) (b : BytesRule) (b-name : List ℕ)
 
 -- ---- all four
 
-module _ (l : Limits) (f : Fields) (mark : ℕ) (s : List ℕ) (at : ℕ) (out₀ : List ℕ) where
-  pub no-keys : keysIn l mark (drop at s) ≡ none → withStrings l (taken f mark (drop at s)) ≡ none
+module _ (l : Limits) (f : Fields) (separator : ℕ) (s : List ℕ) (at : ℕ) (out₀ : List ℕ) where
+  pub no-keys : keysIn l separator (drop at s) ≡ none → withStrings l (taken f separator (drop at s)) ≡ none
   no-keys e = rw e
 
-  module _ (out₁ : List ℕ) (next k d : ℕ) (x : StoredTwo (keysIn l mark (drop at s)) (most (l .keyid) + most (l .ad)) s out₀ 0 out₁ next k d) where
-    pub no-hashes : hashesIn l (drop next s) ≡ none → withStrings l (taken f mark (drop at s)) ≡ none
+  module _ (out₁ : List ℕ) (next k d : ℕ) (x : StoredTwo (keysIn l separator (drop at s)) (most (l .keyid) + most (l .ad)) s out₀ 0 out₁ next k d) where
+    pub no-hashes : hashesIn l (drop next s) ≡ none → withStrings l (taken f separator (drop at s)) ≡ none
     no-hashes e = rw (x .found, e)
 
     module _ (out₂ : List ℕ) (last e g : ℕ) (y : StoredTwo (hashesIn l (drop next s)) (most (l .salt) + most (l .output)) s out₁ d out₂ last e g) where
@@ -159,11 +159,11 @@ module _ (l : Limits) (f : Fields) (mark : ℕ) (s : List ℕ) (at : ℕ) (out�
       pub ordered : (k ≤ d) × (d ≤ e) × (e ≤ g)
       ordered = (omega (arith, x .end-is), omega (arith, y .middle-is), omega (arith, y .end-is))
 
-      pub text-left : (last ≡ length s → ⊥) → withStrings l (taken f mark (drop at s)) ≡ none
+      pub text-left : (last ≡ length s → ⊥) → withStrings l (taken f separator (drop at s)) ≡ none
       text-left h = rw (x .found, y .found, some-empty (drop last s) (λ z. h (omega (arith, length-drop last s, y .inside))))
 
       pub all-strings : roomy l ≤ length out₀ → last ≡ length s → (c : Contents) → c ≡ contentsFor f k (d - k) (e - d) (g - e)
-          → StoredAll (withStrings l (taken f mark (drop at s))) out₀ out₂ c
+          → StoredAll (withStrings l (taken f separator (drop at s))) out₀ out₂ c
       unfolding found
       all-strings room h c q =
           let z : drop last s ≡ [] = ap (λ (i : ℕ). drop i s) h ∙ drop-length s in

@@ -31,8 +31,8 @@ use Rattle.profile.specs.declared.limits.BytesRule.{BytesRule}
 use Rattle.profile.specs.declared.fields.Version.{Version}
 use Rattle.profile.specs.declared.fields.Version.the-variants.{Absent, Number}
 use Rattle.quick.specs.Walk.{run, starts, andThen, taken, numeralIn, isWritten, writtenNumber, leftOut, numberIn, writtenBytes, bytesIn, allowed, versionIn}
-use Rattle.quick.proofs.Starts.{starts-own, run-on, Mark, Closed, run-closed}
-use Rattle.quick.proofs.ItemTexts.{Named, markAfter, items, mark-after, fresh, Behind, closed-items, starts-fresh}
+use Rattle.quick.proofs.Starts.{starts-own, run-on, Separator, Closed, run-closed}
+use Rattle.quick.proofs.ItemTexts.{Named, separatorAfter, items, separator-after, fresh, Behind, closed-items, starts-fresh}
 
 -- what stands behind its tag is read there
 behind-tag : {A : Type 0} (tag t rest : List ℕ) (read : List ℕ → Option A) (left : Option A)
@@ -56,32 +56,32 @@ numeral-reads n rest l h =
     rw (digits-run n rest h, digits-unsigned n, value-digits n, le-leb n largest32 l, drop-at (digits n) rest (length (digits n)) refl)
 
 -- a number that is no parameter left out
-number-there : (r : NumberRule) (n : ℕ) (name : List ℕ) (mark : ℕ) (rest : List ℕ) → n ≤ largest32 → inRange r n ≡ true → isWritten r n ≡ true → Closed rest
-    → numberIn r name mark (((mark ∷ name) ++ digits n) ++ rest) ≡ some (taken n 44 rest)
+number-there : (r : NumberRule) (n : ℕ) (name : List ℕ) (separator : ℕ) (rest : List ℕ) → n ≤ largest32 → inRange r n ≡ true → isWritten r n ≡ true → Closed rest
+    → numberIn r name separator (((separator ∷ name) ++ digits n) ++ rest) ≡ some (taken n 44 rest)
 unfolding numberIn
-number-there r n name mark rest l e w h =
-    behind-tag (mark ∷ name) (digits n) rest (λ (u : List ℕ). andThen (numeralIn u) (writtenNumber r)) (leftOut r mark (((mark ∷ name) ++ digits n) ++ rest))
+number-there r n name separator rest l e w h =
+    behind-tag (separator ∷ name) (digits n) rest (λ (u : List ℕ). andThen (numeralIn u) (writtenNumber r)) (leftOut r separator (((separator ∷ name) ++ digits n) ++ rest))
     ∙ rw (numeral-reads n rest l h, e, w)
 
-number-reads : (r : NumberRule) (n : ℕ) (name : List ℕ) (mark : ℕ) (rest : List ℕ) → soundNumber r ≡ true → inRange r n ≡ true
-    → Closed rest → starts (mark ∷ name) rest ≡ false
-    → numberIn r name mark (tagged (mark ∷ name) (writeNumber r n) ++ rest) ≡ some (taken n (markAfter mark (writeNumber r n)) rest)
+number-reads : (r : NumberRule) (n : ℕ) (name : List ℕ) (separator : ℕ) (rest : List ℕ) → soundNumber r ≡ true → inRange r n ≡ true
+    → Closed rest → starts (separator ∷ name) rest ≡ false
+    → numberIn r name separator (tagged (separator ∷ name) (writeNumber r n) ++ rest) ≡ some (taken n (separatorAfter separator (writeNumber r n)) rest)
 unfolding numberIn
-number-reads (Needed low high) n name mark rest k e h f =
+number-reads (Needed low high) n name separator rest k e h f =
     let l = leb-true high largest32 k in
     let w = from-within low high n e in
-    number-there (Needed low high) n name mark rest (omega arith) e refl h
-number-reads (Omitted low high given) n name mark rest k e h f = go (eqb n given) refl
+    number-there (Needed low high) n name separator rest (omega arith) e refl h
+number-reads (Omitted low high given) n name separator rest k e h f = go (eqb n given) refl
   where
     go : (b : Bool) → eqb n given ≡ b
-        → numberIn (Omitted low high given) name mark (tagged (mark ∷ name) (cond b none (some (digits n))) ++ rest)
-        ≡ some (taken n (markAfter mark (cond b none (some (digits n)))) rest)
+        → numberIn (Omitted low high given) name separator (tagged (separator ∷ name) (cond b none (some (digits n))) ++ rest)
+        ≡ some (taken n (separatorAfter separator (cond b none (some (digits n)))) rest)
     go true q = rw (f, eqb-true n given q)
     go false q =
         let l = leb-true high largest32 (both (leb high largest32) (within low high given) k .0) in
         let w = from-within low high n e in
-        number-there (Omitted low high given) n name mark rest (omega arith) e (rw q) h
-number-reads (Fixed given) n name mark rest k e h f =
+        number-there (Omitted low high given) n name separator rest (omega arith) e (rw q) h
+number-reads (Fixed given) n name separator rest k e h f =
     let w = from-within given given n e in
     let q : given ≡ n = omega arith in
     rw (f, q)
@@ -95,14 +95,14 @@ encode-run : (bs rest : List ℕ) → all isByte bs ≡ true → Closed rest →
 unfolding sextet
 encode-run bs rest a h = run-on inAlphabet (encode bs) rest (encode-alphabet bs a) (run-closed inAlphabet refl refl rest h)
 
-pub bytes-reads : (r : BytesRule) (bs name : List ℕ) (mark : ℕ) (rest : List ℕ) → bytesAllowed r bs ≡ true → all isByte bs ≡ true
-    → Closed rest → (empty bs ≡ true → starts (mark ∷ name) rest ≡ false)
-    → bytesIn r name mark (tagged (mark ∷ name) (writeBytes bs) ++ rest) ≡ some (taken bs (markAfter mark (writeBytes bs)) rest)
+pub bytes-reads : (r : BytesRule) (bs name : List ℕ) (separator : ℕ) (rest : List ℕ) → bytesAllowed r bs ≡ true → all isByte bs ≡ true
+    → Closed rest → (empty bs ≡ true → starts (separator ∷ name) rest ≡ false)
+    → bytesIn r name separator (tagged (separator ∷ name) (writeBytes bs) ++ rest) ≡ some (taken bs (separatorAfter separator (writeBytes bs)) rest)
 unfolding bytesIn
-bytes-reads r [] name mark rest p a h f = rw (f refl)
-bytes-reads r (b ∷ bs) name mark rest p a h f =
+bytes-reads r [] name separator rest p a h f = rw (f refl)
+bytes-reads r (b ∷ bs) name separator rest p a h f =
     let x = b ∷ bs in
-    behind-tag (mark ∷ name) (encode x) rest (writtenBytes r) (some (taken [] mark (((mark ∷ name) ++ encode x) ++ rest)))
+    behind-tag (separator ∷ name) (encode x) rest (writtenBytes r) (some (taken [] separator (((separator ∷ name) ++ encode x) ++ rest)))
     ∙ rw (encode-run x rest a h, canonical-encode x a, decode-encode x a, p, drop-at (encode x) rest (length (encode x)) refl)
 
 -- ---- the version
@@ -124,17 +124,17 @@ version-reads r (Number n) rest k e h f =
 
 -- ---- an item, before the items l and a text that stands behind them
 
-module _ (name : List ℕ) (mark : ℕ) (l : List Named) (rest : List ℕ) (m : Mark mark) (h : Behind rest) (e : fresh name l ≡ true) where
+module _ (name : List ℕ) (separator : ℕ) (l : List Named) (rest : List ℕ) (m : Separator separator) (h : Behind rest) (e : fresh name l ≡ true) where
   pub number-item : (r : NumberRule) (n : ℕ) → soundNumber r ≡ true → inRange r n ≡ true
-      → numberIn r name mark (items mark ((name, writeNumber r n) ∷ l) rest)
-      ≡ some (taken n (markAfter mark (writeNumber r n)) (items (markAfter mark (writeNumber r n)) l rest))
+      → numberIn r name separator (items separator ((name, writeNumber r n) ∷ l) rest)
+      ≡ some (taken n (separatorAfter separator (writeNumber r n)) (items (separatorAfter separator (writeNumber r n)) l rest))
   number-item r n k p =
-      let b = markAfter mark (writeNumber r n) in
-      number-reads r n name mark (items b l rest) k p (closed-items b l rest (mark-after mark (writeNumber r n) m) h) (starts-fresh mark b name l rest h e)
+      let b = separatorAfter separator (writeNumber r n) in
+      number-reads r n name separator (items b l rest) k p (closed-items b l rest (separator-after separator (writeNumber r n) m) h) (starts-fresh separator b name l rest h e)
 
   pub bytes-item : (r : BytesRule) (bs : List ℕ) → bytesAllowed r bs ≡ true → all isByte bs ≡ true
-      → bytesIn r name mark (items mark ((name, writeBytes bs) ∷ l) rest)
-      ≡ some (taken bs (markAfter mark (writeBytes bs)) (items (markAfter mark (writeBytes bs)) l rest))
+      → bytesIn r name separator (items separator ((name, writeBytes bs) ∷ l) rest)
+      ≡ some (taken bs (separatorAfter separator (writeBytes bs)) (items (separatorAfter separator (writeBytes bs)) l rest))
   bytes-item r bs p a =
-      let b = markAfter mark (writeBytes bs) in
-      bytes-reads r bs name mark (items b l rest) p a (closed-items b l rest (mark-after mark (writeBytes bs) m) h) (λ z. starts-fresh mark b name l rest h e)
+      let b = separatorAfter separator (writeBytes bs) in
+      bytes-reads r bs name separator (items b l rest) p a (closed-items b l rest (separator-after separator (writeBytes bs) m) h) (λ z. starts-fresh separator b name l rest h e)

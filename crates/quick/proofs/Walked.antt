@@ -27,8 +27,8 @@ use Rattle.profile.proofs.Table.{Entry, entry-at, known-id}
 use Rattle.profile.proofs.Written.{written}
 use Rattle.profile.proofs.Accepted.{accepted}
 use Rattle.quick.specs.Walk.{starts, taken, versionIn, numbersIn, pairIn, keysIn, hashesIn, headIn, afterId, walked, WalkAgrees}
-use Rattle.quick.proofs.Starts.{Begins, Mark, find-behind}
-use Rattle.quick.proofs.ItemTexts.{Named, markAfter, items, marks, begins-tagged, begins-items, mark-after, marks-mark, Behind, closed-items, starts-fresh, costItems, keyItems, fiveItems, hashesText, restText, pieces-row}
+use Rattle.quick.proofs.Starts.{Begins, Separator, find-behind}
+use Rattle.quick.proofs.ItemTexts.{Named, separatorAfter, items, separators, begins-tagged, begins-items, separator-after, separators-separator, Behind, closed-items, starts-fresh, costItems, keyItems, fiveItems, hashesText, restText, pieces-row}
 use Rattle.quick.proofs.Taken.{encode-alphabet, bytes-reads, version-reads, number-item, bytes-item}
 use Rattle.quick.proofs.Found.{walk-sound}
 
@@ -40,8 +40,8 @@ plain-tagged (b ∷ bs) rest a h =
     let x = b ∷ bs in
     has-append 61 (encode x) rest (not-in inAlphabet 61 refl (encode x) (encode-alphabet x a)) h
 
--- `$` is a mark
-dollar : Mark 36
+-- `$` is a separator
+dollar : Separator 36
 dollar f p q = p
 
 -- without a salt there is no output, so no `$`
@@ -65,9 +65,9 @@ module _ (e : List Profile) (f : FieldSet) (E : Entry e (f .numbers .id) (here e
   abbrev hashes : List ℕ
   hashes = hashesText (f .salt) (f .output)
 
-  -- the mark behind the numbers
+  -- the separator behind the numbers
   abbrev next : ℕ
-  next = marks 36 (costItems limits (f .numbers))
+  next = separators 36 (costItems limits (f .numbers))
 
   -- ---- how the parts of the string begin
 
@@ -83,7 +83,7 @@ module _ (e : List Profile) (f : FieldSet) (E : Entry e (f .numbers .id) (here e
   behind-items =
       let b = P .bytes in
       record {
-        closed = begins-hashes Mark dollar;
+        closed = begins-hashes Separator dollar;
         plain = plain-tagged (f .salt) _ (b .2) (plain-tagged (f .output) [] (b .3) refl);
       }
 
@@ -102,16 +102,16 @@ module _ (e : List Profile) (f : FieldSet) (E : Entry e (f .numbers .id) (here e
       let m = writeNumber (r .m) (n .m) in
       let t = writeNumber (r .t) (n .t) in
       let p = writeNumber (r .p) (n .p) in
-      let d₂ = mark-after 36 m dollar in
-      let d₃ = mark-after (markAfter 36 m) t d₂ in
+      let d₂ = separator-after 36 m dollar in
+      let d₃ = separator-after (separatorAfter 36 m) t d₂ in
       rw (
         number-item (text "m=") 36 ((text "t=", t) ∷ (text "p=", p) ∷ keys) hashes dollar behind-items refl (r .m) (n .m) (E .m) (P .m),
-        number-item (text "t=") (markAfter 36 m) ((text "p=", p) ∷ keys) hashes d₂ behind-items refl (r .t) (n .t) (E .t) (P .t),
-        number-item (text "p=") (markAfter (markAfter 36 m) t) keys hashes d₃ behind-items refl (r .p) (n .p) (E .p) (P .p),
+        number-item (text "t=") (separatorAfter 36 m) ((text "p=", p) ∷ keys) hashes d₂ behind-items refl (r .t) (n .t) (E .t) (P .t),
+        number-item (text "p=") (separatorAfter (separatorAfter 36 m) t) keys hashes d₃ behind-items refl (r .p) (n .p) (E .p) (P .p),
         le-leb (8 * n .p) (n .m) (P .lanes),
       )
 
-  keys-read : keysIn limits next (items next keys hashes) ≡ some (taken (record { first = f .keyid; second = f .ad }) (marks next keys) hashes)
+  keys-read : keysIn limits next (items next keys hashes) ≡ some (taken (record { first = f .keyid; second = f .ad }) (separators next keys) hashes)
   unfolding pairIn
   keys-read =
       let n = f .numbers in
@@ -119,20 +119,20 @@ module _ (e : List Profile) (f : FieldSet) (E : Entry e (f .numbers .id) (here e
       let b = P .bytes in
       let k = writeBytes (f .keyid) in
       let d = writeBytes (f .ad) in
-      let c = marks-mark 36 (costItems limits n) dollar in
+      let c = separators-separator 36 (costItems limits n) dollar in
       rw (
         bytes-item (text "keyid=") next ((text "data=", d) ∷ []) hashes c behind-items refl (r .keyid) (f .keyid) (P .keyid) (b .0),
-        bytes-item (text "data=") (markAfter next k) [] hashes (mark-after next k c) behind-items refl (r .ad) (f .ad) (P .ad) (b .1),
+        bytes-item (text "data=") (separatorAfter next k) [] hashes (separator-after next k c) behind-items refl (r .ad) (f .ad) (P .ad) (b .1),
       )
 
-  hashes-read : hashesIn limits hashes ≡ some (taken (record { first = f .salt; second = f .output }) (markAfter 36 (writeBytes (f .output))) [])
+  hashes-read : hashesIn limits hashes ≡ some (taken (record { first = f .salt; second = f .output }) (separatorAfter 36 (writeBytes (f .output))) [])
   unfolding pairIn
   hashes-read =
       let r = here e f in
       let b = P .bytes in
       let o = tagged (text "$") (writeBytes (f .output)) ++ [] in
       rw (
-        bytes-reads (r .salt) (f .salt) [] 36 o (P .salt) (b .2) (begins-tagged Mark 36 [] (writeBytes (f .output)) [] dollar tt) (no-dollar (f .salt) (f .output) (P .order)),
+        bytes-reads (r .salt) (f .salt) [] 36 o (P .salt) (b .2) (begins-tagged Separator 36 [] (writeBytes (f .output)) [] dollar tt) (no-dollar (f .salt) (f .output) (P .order)),
         bytes-reads (r .output) (f .output) [] 36 [] (P .output) (b .3) tt (λ z. refl),
       )
 

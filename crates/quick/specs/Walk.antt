@@ -38,14 +38,14 @@ abbrev pub andThen : {A B : Type 0} → Option A → (A → Option B) → Option
 andThen none f = none
 andThen (some x) f = f x
 
--- what was taken, the mark that stands before the next item, `$` before the first and a comma before the others, and the text after it
+-- what was taken, the separator that stands before the next item, `$` before the first and a comma before the others, and the text after it
 pub record Taken (A : Type 0) : Type 0 where
   pub found : A
-  pub mark : ℕ
+  pub separator : ℕ
   pub rest : List ℕ
 
 abbrev pub taken : {A : Type 0} → A → ℕ → List ℕ → Taken A
-taken found mark rest = record { found = found; mark = mark; rest = rest }
+taken found separator rest = record { found = found; separator = separator; rest = rest }
 
 -- ---- one number
 
@@ -63,14 +63,14 @@ abbrev pub writtenNumber : NumberRule → ℕ × List ℕ → Option (Taken ℕ)
 writtenNumber r x = cond (inRange r (x .0) && isWritten r (x .0)) (some (taken (x .0) 44 (x .1))) none
 
 abbrev pub leftOut : NumberRule → ℕ → List ℕ → Option (Taken ℕ)
-leftOut (Needed low high) mark t = none
-leftOut (Omitted low high given) mark t = some (taken given mark t)
-leftOut (Fixed given) mark t = some (taken given mark t)
+leftOut (Needed low high) separator t = none
+leftOut (Omitted low high given) separator t = some (taken given separator t)
+leftOut (Fixed given) separator t = some (taken given separator t)
 
--- a number after its mark and its name, or left out
+-- a number after its separator and its name, or left out
 unfoldable pub numberIn : NumberRule → List ℕ → ℕ → List ℕ → Option (Taken ℕ)
-numberIn r name mark t =
-    cond (starts (mark ∷ name) t) (andThen (numeralIn (drop (suc (length name)) t)) (writtenNumber r)) (leftOut r mark t)
+numberIn r name separator t =
+    cond (starts (separator ∷ name) t) (andThen (numeralIn (drop (suc (length name)) t)) (writtenNumber r)) (leftOut r separator t)
 
 -- ---- one byte string
 
@@ -80,10 +80,10 @@ writtenBytes r t =
     let u = run inAlphabet t in
     cond (canonical u && (not (empty (decode u)) && isSize r (length (decode u)))) (some (taken (decode u) 44 (drop (length u) t))) none
 
--- a byte string after its mark and its name, or none
+-- a byte string after its separator and its name, or none
 unfoldable pub bytesIn : BytesRule → List ℕ → ℕ → List ℕ → Option (Taken (List ℕ))
-bytesIn r name mark t =
-    cond (starts (mark ∷ name) t) (writtenBytes r (drop (suc (length name)) t)) (some (taken [] mark t))
+bytesIn r name separator t =
+    cond (starts (separator ∷ name) t) (writtenBytes r (drop (suc (length name)) t)) (some (taken [] separator t))
 
 -- ---- the version
 
@@ -99,10 +99,10 @@ versionIn r t =
 unfoldable pub numbersIn : Limits → ℕ → Version → List ℕ → Option (Taken Fields)
 numbersIn l k v s =
     andThen (numberIn (l .m) (text "m=") 36 s) (λ (m : Taken ℕ).
-    andThen (numberIn (l .t) (text "t=") (m .mark) (m .rest)) (λ (t : Taken ℕ).
-    andThen (numberIn (l .p) (text "p=") (t .mark) (t .rest)) (λ (p : Taken ℕ).
+    andThen (numberIn (l .t) (text "t=") (m .separator) (m .rest)) (λ (t : Taken ℕ).
+    andThen (numberIn (l .p) (text "p=") (t .separator) (t .rest)) (λ (p : Taken ℕ).
     cond (leb (8 * p .found) (m .found))
-    (some (taken (record { id = k; version = v; m = m .found; t = t .found; p = p .found }) (p .mark) (p .rest))) none)))
+    (some (taken (record { id = k; version = v; m = m .found; t = t .found; p = p .found }) (p .separator) (p .rest))) none)))
 
 -- ---- the four byte strings, up to the end
 
@@ -112,13 +112,13 @@ pub record Pair : Type 0 where
 
 -- two byte strings, one after the other; the second has its own `$` where they are pieces
 unfoldable pub pairIn : BytesRule → List ℕ → BytesRule → List ℕ → Bool → ℕ → List ℕ → Option (Taken Pair)
-pairIn a a-name b b-name pieces mark s =
-    andThen (bytesIn a a-name mark s) (λ (x : Taken (List ℕ)).
-    andThen (bytesIn b b-name (cond pieces 36 (x .mark)) (x .rest)) (λ (y : Taken (List ℕ)).
-    some (taken (record { first = x .found; second = y .found }) (y .mark) (y .rest))))
+pairIn a a-name b b-name pieces separator s =
+    andThen (bytesIn a a-name separator s) (λ (x : Taken (List ℕ)).
+    andThen (bytesIn b b-name (cond pieces 36 (x .separator)) (x .rest)) (λ (y : Taken (List ℕ)).
+    some (taken (record { first = x .found; second = y .found }) (y .separator) (y .rest))))
 
 abbrev pub keysIn : Limits → ℕ → List ℕ → Option (Taken Pair)
-keysIn l mark s = pairIn (l .keyid) (text "keyid=") (l .ad) (text "data=") false mark s
+keysIn l separator s = pairIn (l .keyid) (text "keyid=") (l .ad) (text "data=") false separator s
 
 abbrev pub hashesIn : Limits → List ℕ → Option (Taken Pair)
 hashesIn l s = pairIn (l .salt) [] (l .output) [] true 36 s
@@ -126,7 +126,7 @@ hashesIn l s = pairIn (l .salt) [] (l .output) [] true 36 s
 -- nothing is left after them
 abbrev pub withStrings : Limits → Taken Fields → Option FieldSet
 withStrings l n =
-    andThen (keysIn l (n .mark) (n .rest)) (λ (k : Taken Pair).
+    andThen (keysIn l (n .separator) (n .rest)) (λ (k : Taken Pair).
     andThen (hashesIn l (k .rest)) (λ (h : Taken Pair).
     cond (empty (h .rest)) (some (fieldSet (n .found) (k .found .first) (k .found .second) (h .found .first) (h .found .second))) none))
 

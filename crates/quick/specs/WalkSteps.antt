@@ -55,7 +55,7 @@ NumeralIs s at (Numeral·Is n next) = (numeralIn (drop at s) ≡ some (n, drop n
 
 abbrev pub NumberIs : Option (Taken ℕ) → List ℕ → NumberItem → Type 0
 NumberIs o s NumberItem·No = o ≡ none
-NumberIs o s (NumberItem·Is n next mark) = (o ≡ some (taken n mark (drop next s))) × (next ≤ length s)
+NumberIs o s (NumberItem·Is n next separator) = (o ≡ some (taken n separator (drop next s))) × (next ≤ length s)
 
 abbrev pub VersionIs : Option (Taken Version) → List ℕ → VersionItem → Type 0
 VersionIs o s VersionItem·No = o ≡ none
@@ -63,7 +63,7 @@ VersionIs o s (VersionItem·Is v next) = (o ≡ some (taken v 36 (drop next s)))
 
 abbrev pub HeadIs : Option (Taken Fields) → List ℕ → Head → Type 0
 HeadIs o s Head·No = o ≡ none
-HeadIs o s (Head·Is f next mark) = (o ≡ some (taken f mark (drop next s))) × (next ≤ length s)
+HeadIs o s (Head·Is f next separator) = (o ≡ some (taken f separator (drop next s))) × (next ≤ length s)
 
 -- ---- a run of B64 characters
 
@@ -119,9 +119,9 @@ most (Sized low high) = high .0
 most Barred = 0
 
 -- a byte string was taken, at most `high` bytes, and stands in the buffer
-pub record Stored (o : Option (Taken (List ℕ))) (high : ℕ) (s out₀ : List ℕ) (from : ℕ) (out : List ℕ) (next end mark : ℕ) : Type 0 where
+pub record Stored (o : Option (Taken (List ℕ))) (high : ℕ) (s out₀ : List ℕ) (from : ℕ) (out : List ℕ) (next end separator : ℕ) : Type 0 where
   pub bytes : List ℕ
-  pub found : o ≡ some (taken bytes mark (drop next s))
+  pub found : o ≡ some (taken bytes separator (drop next s))
   pub inside : next ≤ length s
   pub small : length bytes ≤ high
   pub end-is : end ≡ from + length bytes
@@ -129,13 +129,13 @@ pub record Stored (o : Option (Taken (List ℕ))) (high : ℕ) (s out₀ : List 
 
 abbrev pub BytesAre : Option (Taken (List ℕ)) → ℕ → List ℕ → List ℕ → ℕ → List ℕ → BytesItem → Type 0
 BytesAre o high s out₀ from out BytesItem·No = o ≡ none
-BytesAre o high s out₀ from out (BytesItem·To next end mark) = Stored o high s out₀ from out next end mark
+BytesAre o high s out₀ from out (BytesItem·To next end separator) = Stored o high s out₀ from out next end separator
 
 -- two byte strings were taken, one after the other
 pub record StoredTwo (o : Option (Taken Pair)) (high : ℕ) (s out₀ : List ℕ) (from : ℕ) (out : List ℕ) (next middle end : ℕ) : Type 0 where
   pub pair : Pair
-  pub mark : ℕ
-  pub found : o ≡ some (taken pair mark (drop next s))
+  pub separator : ℕ
+  pub found : o ≡ some (taken pair separator (drop next s))
   pub inside : next ≤ length s
   pub small : length (pair .first) + length (pair .second) ≤ high
   pub middle-is : middle ≡ from + length (pair .first)
@@ -165,6 +165,10 @@ contentsFor f keyid ad salt output =
 -- room for all four byte strings, and two bytes more for the decoder's test
 abbrev pub roomy : Limits → ℕ
 roomy l = most (l .keyid) + most (l .ad) + most (l .salt) + most (l .output) + 2
+
+-- the buffer that the walk decodes into
+abbrev pub bufferLength : ℕ
+bufferLength = 160
 
 -- the answer that goes with fields: accepted, and each byte string's length
 abbrev pub contentsOf : FieldSet → Contents

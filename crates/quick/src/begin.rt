@@ -1,4 +1,4 @@
-// Whether a mark and a name stand at a place.
+// Whether a separator and a name stand at a place.
 ghost use Prim.Native.Nat.{_≤_};
 ghost use mathlib.Core.Path.{_≡_};
 ghost use mathlib.Core.List.{_∷_};
@@ -22,13 +22,13 @@ fn same_at(s: &[u8], at: usize, name: &[u8]) -> bool
     true
 }
 
-pub fn begins(s: &[u8], at: usize, mark: u8, name: &[u8]) -> bool
-    ensures { λ r. ⌜ r ≡ starts (mark ∷ now (name .entry)) (drop at (now (s .entry))) ⌝ }
+pub fn begins(s: &[u8], at: usize, separator: u8, name: &[u8]) -> bool
+    ensures { λ r. ⌜ r ≡ starts (separator ∷ now (name .entry)) (drop at (now (s .entry))) ⌝ }
 {
     if s.len() <= at {
         return false;
     }
-    if s[at] != mark {
+    if s[at] != separator {
         return false;
     }
     same_at(s, at + 1, name)

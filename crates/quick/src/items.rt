@@ -1,4 +1,4 @@
-// One item of a string after its mark and its name, or left out: a number, a byte string.
+// One item of a string after its separator and its name, or left out: a number, a byte string.
 use crate::begin::begins;
 use crate::numeral::Numeral;
 use crate::numeral::number;
@@ -17,13 +17,13 @@ ghost use Rattle.grammar.specs.B64.{Sextets};
 ghost use Rattle.quick.specs.Walk.{andThen, numeralIn, isWritten, writtenNumber, leftOut, numberIn, writtenBytes, bytesIn};
 ghost use Rattle.quick.specs.WalkSteps.{NumberIs, most, BytesAre};
 
-// The number, the place after its item, and the mark before the next.
+// The number, the place after its item, and the separator before the next.
 pub enum NumberItem {
     No,
     Is(u32, usize, u8),
 }
 
-// The place after the item, the place after its bytes, and the mark before the next item.
+// The place after the item, the place after its bytes, and the separator before the next item.
 pub enum BytesItem {
     No,
     To(usize, usize, u8),
@@ -43,7 +43,7 @@ fn is_written(rule: NumberRule, n: u32) -> bool
     }
 }
 
-// A number whose mark and name were read.
+// A number whose separator and name were read.
 fn written_number(rule: NumberRule, s: &[u8], at: usize) -> NumberItem
     ensures { λ r. ⌜ NumberIs (andThen (numeralIn (drop at (now (s .entry)))) (writtenNumber rule)) (now (s .entry)) r ⌝ }
 {
@@ -62,8 +62,8 @@ fn written_number(rule: NumberRule, s: &[u8], at: usize) -> NumberItem
 }
 
 // A number that doesn't stand in the string.
-fn left_out(rule: NumberRule, at: usize, mark: u8) -> NumberItem
-    ensures { λ r. ⌜ ((s : List ℕ) → at ≤ length s → NumberIs (leftOut rule mark (drop at s)) s r) ⌝ }
+fn left_out(rule: NumberRule, at: usize, separator: u8) -> NumberItem
+    ensures { λ r. ⌜ ((s : List ℕ) → at ≤ length s → NumberIs (leftOut rule separator (drop at s)) s r) ⌝ }
 {
     match rule {
         NumberRule::Needed { low: _, high: _ } => NumberItem::No,
@@ -71,22 +71,22 @@ fn left_out(rule: NumberRule, at: usize, mark: u8) -> NumberItem
             low: _,
             high: _,
             given,
-        } => NumberItem::Is(given, at, mark),
-        NumberRule::Fixed { given } => NumberItem::Is(given, at, mark),
+        } => NumberItem::Is(given, at, separator),
+        NumberRule::Fixed { given } => NumberItem::Is(given, at, separator),
     }
 }
 
-pub fn number_item(rule: NumberRule, name: &[u8], s: &[u8], at: usize, mark: u8) -> NumberItem
+pub fn number_item(rule: NumberRule, name: &[u8], s: &[u8], at: usize, separator: u8) -> NumberItem
     requires { ⌜ at ≤ length (now s) ⌝ }
-    ensures { λ r. ⌜ NumberIs (numberIn rule (now (name .entry)) mark (drop at (now (s .entry)))) (now (s .entry)) r ⌝ }
+    ensures { λ r. ⌜ NumberIs (numberIn rule (now (name .entry)) separator (drop at (now (s .entry)))) (now (s .entry)) r ⌝ }
 {
-    if begins(s, at, mark, name) {
+    if begins(s, at, separator, name) {
         return written_number(rule, s, at + 1 + name.len());
     }
-    left_out(rule, at, mark)
+    left_out(rule, at, separator)
 }
 
-// A byte string whose mark and name were read: at least one byte, and as many as permitted.
+// A byte string whose separator and name were read: at least one byte, and as many as permitted.
 fn written_bytes(
     table: &[u8; 256],
     rule: BytesRule,
@@ -120,16 +120,16 @@ pub fn bytes_item(
     name: &[u8],
     s: &[u8],
     at: usize,
-    mark: u8,
+    separator: u8,
     out: &mut [u8],
     from: usize,
 ) -> BytesItem
     requires { ⌜ (at ≤ length (now s)) × (from + most rule + 2 ≤ length (now out)) ⌝ }
     requires { ⌜ Sextets (now table) ⌝ }
-    ensures { λ r. ⌜ BytesAre (bytesIn rule (now (name .entry)) mark (drop at (now (s .entry)))) (most rule) (now (s .entry)) (now (out .entry)) from (now (out .exit)) r ⌝ }
+    ensures { λ r. ⌜ BytesAre (bytesIn rule (now (name .entry)) separator (drop at (now (s .entry)))) (most rule) (now (s .entry)) (now (out .entry)) from (now (out .exit)) r ⌝ }
 {
-    if begins(s, at, mark, name) {
+    if begins(s, at, separator, name) {
         return written_bytes(table, rule, s, at + 1 + name.len(), out, from);
     }
-    BytesItem::To(at, from, mark)
+    BytesItem::To(at, from, separator)
 }

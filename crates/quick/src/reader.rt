@@ -1,4 +1,5 @@
 // The profile reader, and all that a string carries in one call: the quick way for good strings, the profile's reader for the others.
+use crate::walk::BUFFER_LEN;
 use crate::walk::Walk;
 use crate::walk::walk_string;
 use grammar::alphabet::SEXTETS;
@@ -14,11 +15,11 @@ ghost use lib.ListN.{length};
 ghost use Rattle.profile.specs.Limits.{editionTwo};
 ghost use Rattle.profile.specs.Entries.{reading, refusedContents, allDecoded, contents};
 ghost use Rattle.quick.specs.Walk.{walked};
-ghost use Rattle.quick.specs.WalkSteps.{FoundIn, total, StoredIs};
+ghost use Rattle.quick.specs.WalkSteps.{bufferLength, FoundIn, total, StoredIs};
 
 // The walk with the grammar's own table.
 fn walk_in(s: &[u8], out: &mut [u8]) -> Walk
-    requires { ⌜ 160 ≤ length (now out) ⌝ }
+    requires { ⌜ bufferLength ≤ length (now out) ⌝ }
     ensures { λ r. ⌜ FoundIn (walked editionTwo (now (s .entry))) (now (out .entry)) (now (out .exit)) r ⌝ }
 {
     let table = &SEXTETS;
@@ -29,7 +30,7 @@ fn walk_in(s: &[u8], out: &mut [u8]) -> Walk
 pub fn read(s: &[u8]) -> Reading
     ensures { λ r. ⌜ r ≡ reading editionTwo (now (s .entry)) ⌝ }
 {
-    let mut out = [0u8; 160];
+    let mut out = [0u8; BUFFER_LEN];
     match walk_in(s, &mut out) {
         Walk::Nothing => profile::reader::read(s),
         Walk::Found(c) => {
@@ -80,7 +81,7 @@ fn store(c: Contents, out: &[u8], buf: &mut [u8], at: usize) -> Contents
 pub fn read_all(s: &[u8], buf: &mut [u8], at: usize) -> Contents
     ensures { λ r. ⌜ (r ≡ contents editionTwo (now (s .entry)) (now (buf .entry)) at) × (now (buf .exit) ≡ allDecoded editionTwo (now (s .entry)) (now (buf .entry)) at .buffer) ⌝ }
 {
-    let mut out = [0u8; 160];
+    let mut out = [0u8; BUFFER_LEN];
     match walk_in(s, &mut out) {
         Walk::Nothing => {
             let r = profile::reader::read(s);

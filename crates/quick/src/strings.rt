@@ -16,8 +16,8 @@ pub enum Two {
     To(usize, usize, usize),
 }
 
-// A piece has its own `$`; a parameter has the mark that the item before it leaves.
-fn second_mark(pieces: bool, then: u8) -> u8
+// A piece has its own `$`; a parameter has the separator that the item before it leaves.
+fn second_separator(pieces: bool, then: u8) -> u8
     ensures { λ r. ⌜ r ≡ cond pieces 36 then ⌝ }
 {
     if pieces { b'$' } else { then }
@@ -32,18 +32,18 @@ pub fn two_items(
     pieces: bool,
     s: &[u8],
     at: usize,
-    mark: u8,
+    separator: u8,
     out: &mut [u8],
     from: usize,
 ) -> Two
     requires { ⌜ (at ≤ length (now s)) × (from + most a + most b + 2 ≤ length (now out)) ⌝ }
     requires { ⌜ Sextets (now table) ⌝ }
-    ensures { λ r. ⌜ TwoAre (pairIn a (now («a_name» .entry)) b (now («b_name» .entry)) pieces mark (drop at (now (s .entry)))) (most a + most b) (now (s .entry)) (now (out .entry)) from (now (out .exit)) r ⌝ }
+    ensures { λ r. ⌜ TwoAre (pairIn a (now («a_name» .entry)) b (now («b_name» .entry)) pieces separator (drop at (now (s .entry)))) (most a + most b) (now (s .entry)) (now (out .entry)) from (now (out .exit)) r ⌝ }
 {
-    match bytes_item(table, a, a_name, s, at, mark, out, from) {
+    match bytes_item(table, a, a_name, s, at, separator, out, from) {
         BytesItem::No => Two::No,
         BytesItem::To(next, middle, then) => {
-            let second = second_mark(pieces, then);
+            let second = second_separator(pieces, then);
             match bytes_item(table, b, b_name, s, next, second, out, middle) {
                 BytesItem::No => Two::No,
                 BytesItem::To(last, end, _) => Two::To(last, middle, end),

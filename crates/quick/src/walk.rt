@@ -23,7 +23,10 @@ ghost use lib.ListN.{length, drop};
 ghost use Rattle.grammar.specs.B64.{Sextets};
 ghost use Rattle.profile.specs.Limits.{profileOf, limitsOf, editionTwo};
 ghost use Rattle.quick.specs.Walk.{taken, allowed as allowedVersion, versionIn, numbersIn, headIn, withStrings, afterId, walked};
-ghost use Rattle.quick.specs.WalkSteps.{VersionIs, HeadIs, kindFor, contentsFor, roomy, FoundIn};
+ghost use Rattle.quick.specs.WalkSteps.{VersionIs, HeadIs, kindFor, contentsFor, roomy, bufferLength, FoundIn};
+
+// Room for the four byte strings of any profile, and for the decoder's test of it.
+pub const BUFFER_LEN: usize = 160;
 
 // The version, and the place after it.
 pub enum VersionItem {
@@ -31,7 +34,7 @@ pub enum VersionItem {
     Is(Version, usize),
 }
 
-// The number fields, the place after them, and the mark before the next item.
+// The number fields, the place after them, and the separator before the next item.
 pub enum Head {
     No,
     Is(Fields, usize, u8),
@@ -76,11 +79,23 @@ fn numbers(limits: Limits, id: u8, version: Version, s: &[u8], at: usize) -> Hea
     let p_rule = limits.p;
     match number_item(m_rule, b"m=", s, at, b'$') {
         NumberItem::No => Head::No,
-        NumberItem::Is(m, at_t, mark_t) => match number_item(t_rule, b"t=", s, at_t, mark_t) {
+        NumberItem::Is(m, at_t, separator_t) => match number_item(
+            t_rule,
+            b"t=",
+            s,
+            at_t,
+            separator_t,
+        ) {
             NumberItem::No => Head::No,
-            NumberItem::Is(t, at_p, mark_p) => match number_item(p_rule, b"p=", s, at_p, mark_p) {
+            NumberItem::Is(t, at_p, separator_p) => match number_item(
+                p_rule,
+                b"p=",
+                s,
+                at_p,
+                separator_p,
+            ) {
                 NumberItem::No => Head::No,
-                NumberItem::Is(p, next, mark) => {
+                NumberItem::Is(p, next, separator) => {
                     if m / 8 < p {
                         return Head::No;
                     }
@@ -93,7 +108,7 @@ fn numbers(limits: Limits, id: u8, version: Version, s: &[u8], at: usize) -> Hea
                             p,
                         },
                         next,
-                        mark,
+                        separator,
                     )
                 }
             },
@@ -155,12 +170,12 @@ fn with_strings(
     fields: Fields,
     s: &[u8],
     at: usize,
-    mark: u8,
+    separator: u8,
     out: &mut [u8],
 ) -> Walk
     requires { ⌜ (at ≤ length (now s)) × (roomy limits ≤ length (now out)) ⌝ }
     requires { ⌜ Sextets (now table) ⌝ }
-    ensures { λ r. ⌜ FoundIn (withStrings limits (taken fields mark (drop at (now (s .entry))))) (now (out .entry)) (now (out .exit)) r ⌝ }
+    ensures { λ r. ⌜ FoundIn (withStrings limits (taken fields separator (drop at (now (s .entry))))) (now (out .entry)) (now (out .exit)) r ⌝ }
 {
     let keyid = limits.keyid;
     let ad = limits.ad;
@@ -175,7 +190,7 @@ fn with_strings(
         false,
         s,
         at,
-        mark,
+        separator,
         out,
         0,
     ) {
@@ -196,7 +211,7 @@ fn with_strings(
 
 // What stands after the id.
 fn after_id(table: &[u8; 256], id: u8, s: &[u8], at: usize, out: &mut [u8]) -> Walk
-    requires { ⌜ (at ≤ length (now s)) × (160 ≤ length (now out)) ⌝ }
+    requires { ⌜ (at ≤ length (now s)) × (bufferLength ≤ length (now out)) ⌝ }
     requires { ⌜ Sextets (now table) ⌝ }
     ensures { λ r. ⌜ FoundIn (afterId editionTwo id (drop at (now (s .entry)))) (now (out .entry)) (now (out .exit)) r ⌝ }
 {
@@ -206,13 +221,21 @@ fn after_id(table: &[u8; 256], id: u8, s: &[u8], at: usize, out: &mut [u8]) -> W
     let limits = limits_of(id);
     match head_at(limits, id, s, at) {
         Head::No => Walk::Nothing,
-        Head::Is(fields, next, mark) => with_strings(table, limits, fields, s, next, mark, out),
+        Head::Is(fields, next, separator) => with_strings(
+            table,
+            limits,
+            fields,
+            s,
+            next,
+            separator,
+            out,
+        ),
     }
 }
 
 // The fields of a good string, with their byte strings, one after the other, from the start of `out`.
 pub fn walk_string(table: &[u8; 256], s: &[u8], out: &mut [u8]) -> Walk
-    requires { ⌜ 160 ≤ length (now out) ⌝ }
+    requires { ⌜ bufferLength ≤ length (now out) ⌝ }
     requires { ⌜ Sextets (now table) ⌝ }
     ensures { λ r. ⌜ FoundIn (walked editionTwo (now (s .entry))) (now (out .entry)) (now (out .exit)) r ⌝ }
 {

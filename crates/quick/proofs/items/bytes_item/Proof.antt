@@ -24,7 +24,7 @@ written-bytes-requires c κs =
     let b = c .before .before in
     let st = b .before .before .before .before in
     let a = st .args in
-    let t = starts-text (a .mark ∷ a .name .now) (drop (a .at) (a .s .now)) (sym (b .begins .ensures) ∙ c .before .if1 .taken) in
+    let t = starts-text (a .separator ∷ a .name .now) (drop (a .at) (a .s .now)) (sym (b .begins .ensures) ∙ c .before .if1 .taken) in
     ((omega (arith, length-drop (a .at) (a .s .now)), st .pre .0 .1), st .pre .1)
 
 same-length : tie.Need-same-length
@@ -35,13 +35,13 @@ returns c =
     let w = c .before .before in
     let t = w .before .before in
     let a = t .before .before .before .before .before .args in
-    rw (bytes-there (a .rule) (a .name .now) (a .mark) (a .s .now) (a .at) (sym (t .before .begins .ensures) ∙ t .if1 .taken)) (w .written-bytes .ensures)
+    rw (bytes-there (a .rule) (a .name .now) (a .separator) (a .s .now) (a .at) (sym (t .before .begins .ensures) ∙ t .if1 .taken)) (w .written-bytes .ensures)
 
 returns-2 : tie.Need-returns-2
 returns-2 c =
     let st = c .before .before .before .before .before in
     let a = st .args in
-    bytes-none (a .rule) (a .name .now) (a .mark) (a .s .now) (a .at) (a .out .now) (a .from) (st .pre .0 .0) (sym (c .before .begins .ensures) ∙ c .if1 .left)
+    bytes-none (a .rule) (a .name .now) (a .separator) (a .s .now) (a .at) (a .out .now) (a .from) (st .pre .0 .0) (sym (c .before .begins .ensures) ∙ c .if1 .left)
 
 pub bytes-item-spec : {M : Type 1} → statement M
 bytes-item-spec =

@@ -14,8 +14,8 @@ enum-told c = search needs
 enum-known-next : tie.Need-enum-known-next
 enum-known-next c = search needs
 
-second-mark-requires : tie.Need-second-mark-requires
-second-mark-requires c κs = search needs
+second-separator-requires : tie.Need-second-separator-requires
+second-separator-requires c κs = search needs
 
 bytes-item-requires-2 : tie.Need-bytes-item-requires-2
 bytes-item-requires-2 c κs =
@@ -39,7 +39,7 @@ returns : tie.Need-returns
 returns c =
     let b = c .before .before .before .before in
     let a = b .before .before .before .before .before .before .args in
-    no-first (a .a) (a .a-name .now) (a .b) (a .b-name .now) (a .pieces) (a .mark) (a .s .now) (a .at) (a .out .now) (a .from) (rw (c .enum-told .given .1) at (b .bytes-item .ensures))
+    no-first (a .a) (a .a-name .now) (a .b) (a .b-name .now) (a .pieces) (a .separator) (a .s .now) (a .at) (a .out .now) (a .from) (rw (c .enum-told .given .1) at (b .bytes-item .ensures))
 
 same-length-2 : tie.Need-same-length-2
 same-length-2 c = search needs
@@ -52,7 +52,7 @@ returns-2 c =
     let b = n .before .before .before .before in
     let a = b .before .before .before .before .before .before .args in
     let h = rw (n .next .given .1) at (b .bytes-item .ensures) in
-    no-second (a .a) (a .a-name .now) (a .b) (a .b-name .now) (a .pieces) (a .mark) (a .s .now) (a .at) (a .out .now) (a .from) _ _ _ _ h _ (m .second-mark .ensures)
+    no-second (a .a) (a .a-name .now) (a .b) (a .b-name .now) (a .pieces) (a .separator) (a .s .now) (a .at) (a .out .now) (a .from) _ _ _ _ h _ (m .second-separator .ensures)
     (rw (c .enum-told2 .given .1) at (d .bytes-item2 .ensures))
 
 same-length-3 : tie.Need-same-length-3
@@ -69,7 +69,7 @@ returns-3 c =
     let a = st .args in
     let h = rw (n .next .given .1) at (b .bytes-item .ensures) in
     let y = rw (l .last .given .1) at (d .bytes-item2 .ensures) in
-    both-strings (a .a) (a .a-name .now) (a .b) (a .b-name .now) (a .pieces) (a .mark) (a .s .now) (a .at) (a .out .now) (a .from) _ _ _ _ h _ (m .second-mark .ensures)
+    both-strings (a .a) (a .a-name .now) (a .b) (a .b-name .now) (a .pieces) (a .separator) (a .s .now) (a .at) (a .out .now) (a .from) _ _ _ _ h _ (m .second-separator .ensures)
     (omega (arith, st .pre .0 .1)) _ _ _ _ y
 
 pub two-items-spec : {M : Type 1} → statement M
@@ -79,7 +79,7 @@ two-items-spec =
     bytes-item-requires
     enum-told
     enum-known-next
-    second-mark-requires
+    second-separator-requires
     bytes-item-requires-2
     enum-told-2
     enum-known-last

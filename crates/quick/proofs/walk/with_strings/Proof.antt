@@ -50,7 +50,7 @@ contents-for-requires c κs =
     let a = k .before .before .before .before .before .before .args in
     let h = rw (n .next .given .1) at (k .two-items .ensures) in
     let y = rw (e .last .given .1) at (w .two-items2 .ensures) in
-    ordered (a .limits) (a .fields) (a .mark) (a .s .now) (a .at) (a .out .now) _ _ _ _ h _ _ _ _ y
+    ordered (a .limits) (a .fields) (a .separator) (a .s .now) (a .at) (a .out .now) _ _ _ _ h _ _ _ _ y
 
 same-length : tie.Need-same-length
 same-length c =
@@ -69,7 +69,7 @@ returns c =
     let a = st .args in
     let h = rw (n .next .given .1) at (k .two-items .ensures) in
     let y = rw (e .last .given .1) at (w .two-items2 .ensures) in
-    all-strings (a .limits) (a .fields) (a .mark) (a .s .now) (a .at) (a .out .now) _ _ _ _ h _ _ _ _ y (st .pre .0 .1) (c .before .if1 .taken) _ (c .contents-for .ensures)
+    all-strings (a .limits) (a .fields) (a .separator) (a .s .now) (a .at) (a .out .now) _ _ _ _ h _ _ _ _ y (st .pre .0 .1) (c .before .if1 .taken) _ (c .contents-for .ensures)
 
 same-length-2 : tie.Need-same-length-2
 same-length-2 c = search needs
@@ -78,7 +78,7 @@ returns-2 : tie.Need-returns-2
 returns-2 c =
     let k = c .before .before .before .before in
     let a = k .before .before .before .before .before .before .args in
-    no-keys (a .limits) (a .fields) (a .mark) (a .s .now) (a .at) (a .out .now) (rw (c .enum-told .given .1) at (k .two-items .ensures))
+    no-keys (a .limits) (a .fields) (a .separator) (a .s .now) (a .at) (a .out .now) (rw (c .enum-told .given .1) at (k .two-items .ensures))
 
 same-length-3 : tie.Need-same-length-3
 same-length-3 c = search needs
@@ -90,7 +90,7 @@ returns-3 c =
     let k = n .before .before .before .before in
     let a = k .before .before .before .before .before .before .args in
     let h = rw (n .next .given .1) at (k .two-items .ensures) in
-    no-hashes (a .limits) (a .fields) (a .mark) (a .s .now) (a .at) (a .out .now) _ _ _ _ h (rw (c .enum-told2 .given .1) at (w .two-items2 .ensures))
+    no-hashes (a .limits) (a .fields) (a .separator) (a .s .now) (a .at) (a .out .now) _ _ _ _ h (rw (c .enum-told2 .given .1) at (w .two-items2 .ensures))
 
 same-length-4 : tie.Need-same-length-4
 same-length-4 c = search needs
@@ -104,7 +104,7 @@ returns-4 c =
     let a = k .before .before .before .before .before .before .args in
     let h = rw (n .next .given .1) at (k .two-items .ensures) in
     let y = rw (e .last .given .1) at (w .two-items2 .ensures) in
-    text-left (a .limits) (a .fields) (a .mark) (a .s .now) (a .at) (a .out .now) _ _ _ _ h _ _ _ _ y (c .if1 .left)
+    text-left (a .limits) (a .fields) (a .separator) (a .s .now) (a .at) (a .out .now) _ _ _ _ h _ _ _ _ y (c .if1 .left)
 
 pub with-strings-spec : {M : Type 1} → statement M
 with-strings-spec =
