@@ -4,7 +4,7 @@ use Prim.Native.Nat.{ℕ}
 use mathlib.Core.List.{List, [], _++_}
 use mathlib.Core.Path.{sym, ap, _∙_}
 use native.Mathlib.Omega.{arith}
-use Rattle.grammar.proofs.DecimalLaws.{length-digits}
+use Rattle.decimal.proofs.DecimalLaws.{length-digits}
 use Rattle.accounts.specs.Lines.{linesFrom, lines}
 use Rattle.accounts.specs.Listing.{header, rowsFrom, listing}
 use Rattle.accounts.specs.Feeding.{heldOf, leftOf}

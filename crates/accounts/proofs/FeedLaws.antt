@@ -9,15 +9,15 @@ use native.Mathlib.Omega.{arith}
 use borrow.Author.Tests.{le-leb, lt-leb}
 use lib.ListN.{length, take, drop, length-take, length-drop, length-append}
 use lib.Seq.{take-take, length-take-le, take-append-add}
-use Rattle.grammar.specs.Text.{has, find, cut, nextAt}
-use Rattle.grammar.specs.Place.{Outcome, outcome, refused, hasRoom, over, put}
-use Rattle.grammar.proofs.Scanning.{find-le}
-use Rattle.grammar.proofs.Splitting.{cut-before}
-use Rattle.grammar.proofs.Writing.{put-fits, over-back}
-use Rattle.grammar.proofs.Wrote.{wrote-start, wrote-more, wrote-length}
+use Rattle.text.specs.Text.{has, find, cut, nextAt}
+use Rattle.text.specs.Place.{Outcome, outcome, refused, hasRoom, over, put}
+use Rattle.text.proofs.Scanning.{find-le}
+use Rattle.text.proofs.Splitting.{cut-before}
+use Rattle.text.proofs.Writing.{put-fits, over-back}
+use Rattle.text.proofs.Wrote.{wrote-start, wrote-more}
 use Rattle.accounts.specs.Lines.{lastLine, lineAnswer}
 use Rattle.accounts.specs.Listing.{rowText, rowsFrom, nextLine}
-use Rattle.accounts.specs.Feeding.{mostKept, heldOf, fed, rowFed, usedFed, nextFed}
+use Rattle.accounts.specs.Feeding.{mostKept, heldOf, fed, rowFed, nextFed}
 use Rattle.accounts.specs.FeedingSteps.{Held}
 use Rattle.accounts.specs.declared.line.Answer.{Answer}
 use Rattle.accounts.specs.declared.listing.Listed.{Listed}

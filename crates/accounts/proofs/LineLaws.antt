@@ -1,23 +1,23 @@
 -- Rows 18 and 19 of a line, and its answer.
 -- Assumes nothing.
 use Prim.Native.Nat.{ℕ, suc, _+_, _-_, _≤_, _<_}
-use mathlib.Core.Bool.{Bool, true, false, not, cond, _&&_, _||_, false≢true, true≢false}
+use mathlib.Core.Bool.{Bool, true, false, cond, _&&_, _||_, false≢true}
 use mathlib.Core.List.{List, [], _∷_}
 use mathlib.Core.Path.{_≡_, refl, sym, _∙_, ap}
 use native.Mathlib.Omega.{arith}
-use lib.Dec.{eqb, ltb}
+use lib.Dec.{eqb}
 use lib.ListN.{length, take, drop}
 use borrow.Author.Tests.{lt-ltb, le-ltb, ne-eqb}
-use Rattle.grammar.specs.Text.{has, find, cut}
+use Rattle.text.specs.Text.{has, find}
 use Rattle.grammar.specs.Rules.{isName}
-use Rattle.grammar.proofs.Tests.{both, is-true}
-use Rattle.grammar.proofs.Rows.{clear}
-use Rattle.grammar.proofs.Splitting.{cut-before, cut-after}
-use Rattle.grammar.proofs.Writing.{tail-part}
+use Rattle.text.proofs.Tests.{both, is-true}
+use Rattle.text.proofs.Rows.{clear}
+use Rattle.text.proofs.Splitting.{cut-before, cut-after}
+use Rattle.text.proofs.Writing.{tail-part}
 use Rattle.profile.specs.Limits.{editionTwo}
 use Rattle.profile.specs.Entries.{reading}
 use Rattle.profile.specs.declared.fields.Reading.{Reading}
-use Rattle.accounts.specs.Lines.{nameOf, stringOf, lineRows, lineRefusal, stringAnswer, lineAnswer}
+use Rattle.accounts.specs.Lines.{nameOf, stringOf, lineRows, lineRefusal, lineAnswer}
 use Rattle.accounts.specs.declared.line.Answer.{Answer}
 
 -- ---- a byte and the place where it stands first

@@ -2,14 +2,14 @@
 -- Assumes nothing.
 use Prim.Native.Nat.{ℕ, _+_, _≤_}
 use mathlib.Core.Bool.{Bool, true, false, cond}
-use mathlib.Core.List.{List, [], _∷_, _++_}
-use mathlib.Core.Path.{_≡_, refl}
+use mathlib.Core.List.{[], _∷_, _++_}
+use mathlib.Core.Path.{_≡_}
 use native.Mathlib.Omega.{arith}
 use lib.Dec.{eqb}
 use lib.ListN.{length, length-append}
 use borrow.Author.Tests.{ne-eqb}
-use Rattle.grammar.specs.Text.{text}
-use Rattle.grammar.specs.Decimal.{digits}
+use Rattle.text.specs.Text.{text}
+use Rattle.decimal.specs.Decimal.{digits}
 use Rattle.accounts.specs.Listing.{kindLine, rowText}
 use Rattle.accounts.specs.declared.line.Answer.{Answer}
 

@@ -1,25 +1,25 @@
 -- Every run of the listing's calls: a line is judged by its first 513 bytes, and what the calls write are the rows of all lines, wherever
 -- the cuts fall.
 -- Assumes nothing.
-use Prim.Native.Nat.{ℕ, zero, suc, _+_, _≤_, _<_}
+use Prim.Native.Nat.{ℕ, zero, suc, _+_, _<_}
 use mathlib.Core.Bool.{Bool, true, false, cond, _||_, true≢false, false≢true}
-use mathlib.Core.List.{List, [], _∷_, _++_, append-nil, append-assoc}
+use mathlib.Core.List.{List, [], _∷_, _++_, append-nil}
 use mathlib.Core.Path.{_≡_, refl, sym, ap, _∙_}
 use native.Mathlib.Omega.{arith}
 use lib.Dec.{eqb, leb}
 use lib.ListN.{length, take, drop, length-take, length-drop}
 use lib.Seq.{append-snoc, take-all, take-take, drop-drop}
 use borrow.Author.Tests.{leb-true, leb-false, le-leb}
-use Rattle.grammar.specs.Text.{has, find, cut, cutByte}
-use Rattle.grammar.specs.Place.{Outcome, outcome, hasRoom, over, put}
-use Rattle.grammar.proofs.Tests.{neither, or-false}
-use Rattle.grammar.proofs.Lists.{has-append}
-use Rattle.grammar.proofs.Splitting.{cut-after}
-use Rattle.grammar.proofs.Writing.{put-zero, over-back}
-use Rattle.grammar.proofs.Over.{length-over}
-use Rattle.accounts.specs.Lines.{lastLine, linesFrom, lines, lineAnswer}
+use Rattle.text.specs.Text.{has, find, cut, cutByte}
+use Rattle.text.specs.Place.{outcome, hasRoom, over, put}
+use Rattle.text.proofs.Tests.{neither, or-false}
+use Rattle.text.proofs.Lists.{has-append}
+use Rattle.text.proofs.Splitting.{cut-after}
+use Rattle.text.proofs.Writing.{put-zero, over-back}
+use Rattle.text.proofs.Over.{length-over}
+use Rattle.accounts.specs.Lines.{lastLine, linesFrom, lineAnswer}
 use Rattle.accounts.specs.Listing.{rowText, rowsFrom, nextLine}
-use Rattle.accounts.specs.Feeding.{heldOf, Fed, fed, rowFed, usedFed, nextFed, endPut, Calls, row, full, used, end, concat, leftOf}
+use Rattle.accounts.specs.Feeding.{heldOf, Fed, fed, nextFed, endPut, Calls, row, full, used, end, concat, leftOf}
 use Rattle.accounts.specs.declared.line.Answer.{Answer}
 use Rattle.accounts.specs.declared.listing.Listed.{Listed}
 use Rattle.accounts.specs.declared.listing.Listed.the-variants.{Row, UsedUp, NoRoom}

@@ -6,8 +6,8 @@ use mathlib.Core.Bool.{cond}
 use mathlib.Core.List.{List, [], _∷_, _++_}
 use mathlib.Core.Path.{_≡_}
 use lib.ListN.{length, take, drop}
-use Rattle.grammar.specs.Text.{has, find, cut}
-use Rattle.grammar.specs.Place.{Outcome, outcome, hasRoom, over, put}
+use Rattle.text.specs.Text.{has, find, cut}
+use Rattle.text.specs.Place.{Outcome, outcome, hasRoom, over, put}
 use Rattle.accounts.specs.Lines.{lastLine, lineAnswer}
 use Rattle.accounts.specs.Listing.{rowText, rowsFrom, nextLine}
 use Rattle.accounts.specs.declared.listing.Listed.{Listed}

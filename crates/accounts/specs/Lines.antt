@@ -5,8 +5,9 @@ use mathlib.Core.Bool.{not, cond, _&&_}
 use mathlib.Core.List.{List, [], _∷_, _++_}
 use lib.Dec.{ltb, eqb}
 use lib.ListN.{length}
-use Rattle.grammar.specs.Text.{has, cut}
-use Rattle.grammar.specs.Rules.{Row, row, firstOf, isName}
+use Rattle.text.specs.Text.{has, cut}
+use Rattle.text.specs.Rows.{Row, row, firstOf}
+use Rattle.grammar.specs.Rules.{isName}
 use Rattle.profile.specs.Limits.{editionTwo}
 use Rattle.profile.specs.Entries.{reading}
 use Rattle.accounts.specs.declared.line.Answer.{Answer}

@@ -4,8 +4,8 @@ use Prim.Native.Nat.{ℕ, suc, _-_, _^_}
 use mathlib.Core.Bool.{cond}
 use mathlib.Core.List.{List, [], _∷_, _++_}
 use lib.Dec.{eqb, ltb}
-use Rattle.grammar.specs.Text.{text}
-use Rattle.grammar.specs.Decimal.{digits}
+use Rattle.text.specs.Text.{text}
+use Rattle.decimal.specs.Decimal.{digits}
 use Rattle.accounts.specs.Lines.{lines, lineAnswer}
 use Rattle.accounts.specs.declared.line.Answer.{Answer}
 

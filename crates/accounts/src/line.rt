@@ -1,10 +1,10 @@
 // One line of account text, without its line feed: name, tab, string.
 use crate::limits::LONGEST_LINE;
-use grammar::bytes::is_name;
-use grammar::scan::next_at;
-use quick::reader::read;
+use fast_path::reader::read;
+use grammar::names::is_name;
+use text::scan::next_at;
 ghost use mathlib.Core.Path.{_≡_};
-ghost use Rattle.grammar.specs.Text.{find};
+ghost use Rattle.text.specs.Text.{find};
 ghost use Rattle.accounts.specs.Lines.{lineRefusal, lineAnswer};
 
 // The number of a line, and the kind of its string: 1 parameters, 2 salt, 3 hash; 0 where the line is refused.

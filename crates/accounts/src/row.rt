@@ -1,16 +1,15 @@
 // A row of the listing: the line's number, its answer and its kind, parted by tabs, with a line feed.
 use crate::line::Answer;
-use grammar::decimal::unsigned_len;
-use grammar::decimal::write_unsigned;
-use grammar::place::Written;
-use grammar::place::has_room;
-use grammar::place::write_text;
-use grammar::units::Chars;
+use decimal::writer::unsigned_len;
+use decimal::writer::write_unsigned;
+use text::place::Written;
+use text::place::has_room;
+use text::place::write_text;
+use text::units::Chars;
 ghost use Prim.Native.Nat.{_≤_};
 ghost use mathlib.Core.Path.{_≡_};
 ghost use lib.ListN.{length};
-ghost use Rattle.grammar.specs.Place.{outcome, put};
-ghost use Rattle.grammar.specs.PlaceSteps.{Wrote};
+ghost use Rattle.text.specs.Place.{outcome, put, Wrote};
 ghost use Rattle.accounts.specs.Listing.{header, kindLine, rowText};
 
 // The first line of the listing, into `buf` from `at` on. 17: it doesn't fit.

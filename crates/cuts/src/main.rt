@@ -5,11 +5,11 @@ use accounts::listing::Listed;
 use accounts::listing::end;
 use accounts::listing::next;
 use accounts::row::write_header;
-use grammar::parts::part;
-use grammar::pieces::Span;
-use grammar::units::Chars;
+use grammar::places::Span;
+use grammar::places::part;
 use libc::STDIN_FILENO;
 use libc::STDOUT_FILENO;
+use text::units::Chars;
 
 // The bytes kept of the unfinished line, its number, and the bytes of output that wait.
 struct State {

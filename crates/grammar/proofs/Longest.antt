@@ -9,38 +9,30 @@ use native.Mathlib.Omega.{arith}
 use lib.Dec.{leb, eqb}
 use lib.ListN.{length, length-append}
 use borrow.Author.Tests.{leb-true}
-use Rattle.grammar.specs.Text.{within, all, empty, split, join, cut, listOf, broken}
+use Rattle.text.specs.Text.{within, all, empty, split, cut, listOf, broken}
 use Rattle.grammar.specs.Bytes.{inClass, isText}
-use Rattle.grammar.specs.B64.{canonical}
-use Rattle.grammar.specs.Decimal.{isDecimal, digits}
-use Rattle.grammar.specs.Numerals.{numeral, limitedReading, limitedNumber}
+use Rattle.b64.specs.B64.{canonical}
+use Rattle.decimal.specs.Decimal.{isDecimal, digits}
+use Rattle.decimal.specs.Numerals.{numeral, limitedReading, limitedNumber}
 use Rattle.grammar.specs.Limits.{longestString}
 use Rattle.grammar.specs.Pieces.{Slot, Pieces, pieces, slotOf, afterId, string}
 use Rattle.grammar.specs.Items.{Item, itemText, items}
-use Rattle.grammar.specs.Rules.{isName, isValue, isItem, isParams, isVersion, isOutput, ruleOf, firstOf, pieceRows, grammarNumber}
+use Rattle.grammar.specs.Rules.{isName, isValue, isItem, isParams, isVersion, isOutput, ruleOf, pieceRows, grammarNumber}
+use Rattle.text.specs.Rows.{firstOf}
 use Rattle.grammar.specs.declared.classes.Class.{Class}
-use Rattle.grammar.specs.declared.decimal.Limited.{Limited}
-use Rattle.grammar.specs.declared.decimal.Limited.the-variants.{Malformed, Outside, Value}
-use Rattle.grammar.specs.declared.pieces.Piece.{Piece}
-use Rattle.grammar.specs.declared.pieces.Piece.the-variants.{Id, Version, Params, Salt, Output}
-use Rattle.grammar.proofs.Tests.{both, is-true, from-within}
-use Rattle.grammar.proofs.Rows.{Clear, clear}
-use Rattle.grammar.proofs.DecimalLaws.{length-digits}
-use Rattle.grammar.proofs.NumeralLaws.{digits-limited}
+use Rattle.decimal.specs.declared.reader.Limited.{Limited}
+use Rattle.decimal.specs.declared.reader.Limited.the-variants.{Malformed, Outside, Value}
+use Rattle.grammar.specs.declared.places.Piece.{Piece}
+use Rattle.grammar.specs.declared.places.Piece.the-variants.{Id, Version, Params, Salt, Output}
+use Rattle.text.proofs.Tests.{both, is-true, from-within}
+use Rattle.text.proofs.Rows.{Clear, clear}
+use Rattle.decimal.proofs.DecimalLaws.{length-digits}
+use Rattle.decimal.proofs.NumeralLaws.{digits-limited}
+use Rattle.text.proofs.Joining.{total, join-length}
 use Rattle.grammar.proofs.ItemLaws.{item-name, item-value, join-items}
 use Rattle.grammar.proofs.Reading.{accepted-rows}
 
 -- ---- lengths
-
--- the bytes of pieces, each with a separator before it
-unfoldable pub total : List (List ℕ) → ℕ
-total [] = 0
-total (q ∷ qs) = suc (length q + total qs)
-
-pub join-length : (d : ℕ) (p : List ℕ) (qs : List (List ℕ)) → length (join d p qs) ≡ length p + total qs
-unfolding total
-join-length d p [] = omega arith
-join-length d p (q ∷ qs) = let h = join-length d q qs in omega (arith, length-append p (d ∷ join d q qs))
 
 text-length : (class : Class) (most : ℕ) (s : List ℕ) → isText class most s ≡ true → length s ≤ most
 unfolding isText

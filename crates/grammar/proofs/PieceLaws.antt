@@ -5,12 +5,12 @@ use mathlib.Core.Bool.{true, false≢true}
 use mathlib.Core.List.{List, [], _∷_, _++_}
 use mathlib.Core.Path.{_≡_, sym, _∙_, ap}
 use borrow.Author.Tests.{eqb-true}
-use Rattle.grammar.specs.Text.{Parts, split, join, headIf, tailIf, listOf}
+use Rattle.text.specs.Text.{Parts, split, join, headIf, tailIf, listOf}
 use Rattle.grammar.specs.Pieces.{Pieces, belongs, sort, afterFirst, pieces, afterId, string}
 use Rattle.grammar.specs.Rules.{starts}
-use Rattle.grammar.specs.declared.pieces.Piece.the-variants.{Version, Params, Salt, Output}
+use Rattle.grammar.specs.declared.places.Piece.the-variants.{Version, Params, Salt, Output}
 use Rattle.grammar.specs.Claims.{Sorts}
-use Rattle.grammar.proofs.Lists.{join-split, split-join, head-tail, head-of, tail-of}
+use Rattle.text.proofs.Lists.{join-split, split-join, head-tail, head-of, tail-of}
 
 after-sort : (p : Parts) → afterId (sort p) ≡ p .1
 after-sort p =

@@ -7,20 +7,20 @@ use mathlib.Core.Bool.{true, false, not}
 use native.Mathlib.Omega.{arith}
 use lib.Dec.{eqb}
 use lib.ListN.{length, drop}
-use Rattle.grammar.specs.Text.{broken}
-use Rattle.grammar.specs.Decimal.{isDecimal}
-use Rattle.grammar.specs.Numerals.{numeral, limitedReading, limitedNumber}
+use Rattle.text.specs.Text.{broken}
+use Rattle.decimal.specs.Decimal.{isDecimal}
+use Rattle.decimal.specs.Numerals.{numeral, limitedReading, limitedNumber}
 use Rattle.grammar.specs.Limits.{largestVersion}
 use Rattle.grammar.specs.Pieces.{pieces, slotOf}
 use Rattle.grammar.specs.Items.{items, itemsOf}
 use Rattle.grammar.specs.Rules.{isVersion, ruleOf, starts}
 use Rattle.grammar.specs.Layout.{placesOf, spanOf}
 use Rattle.grammar.specs.Parts.{partAt}
-use Rattle.grammar.specs.declared.decimal.Limited.{Limited}
-use Rattle.grammar.specs.declared.pieces.Piece.{Piece}
-use Rattle.grammar.specs.declared.pieces.Piece.the-variants.{Params}
-use Rattle.grammar.specs.declared.pieces.Span.{Span}
-use Rattle.grammar.specs.declared.pieces.Places.{Places}
+use Rattle.decimal.specs.declared.reader.Limited.{Limited}
+use Rattle.grammar.specs.declared.places.Piece.{Piece}
+use Rattle.grammar.specs.declared.places.Piece.the-variants.{Params}
+use Rattle.grammar.specs.declared.places.Span.{Span}
+use Rattle.grammar.specs.declared.places.Places.{Places}
 use Rattle.grammar.proofs.Reading.{slot-absent, slot-present}
 
 pub version-none : (s : List ℕ) → length s < 2 → isVersion s ≡ false

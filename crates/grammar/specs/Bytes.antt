@@ -3,18 +3,11 @@
 use Prim.Native.Nat.{ℕ}
 use mathlib.Core.Bool.{Bool, _&&_, _||_}
 use mathlib.Core.List.{List}
-use lib.Dec.{leb, eqb}
+use lib.Dec.{eqb}
 use lib.ListN.{length}
-use Rattle.grammar.specs.Text.{within, all}
+use Rattle.text.specs.Text.{within, all}
 use Rattle.grammar.specs.declared.classes.Class.{Class}
-use Rattle.grammar.specs.declared.classes.Class.the-variants.{Name, Value, Digit}
-
-abbrev pub isByte : ℕ → Bool
-isByte c = leb c 255
-
--- `0`..`9`
-unfoldable pub isDigit : ℕ → Bool
-isDigit c = within 48 57 c
+use Rattle.grammar.specs.declared.classes.Class.the-variants.{Name, Value}
 
 -- `a`..`z`, `0`..`9`, or the minus sign
 unfoldable pub isNameByte : ℕ → Bool
@@ -27,7 +20,6 @@ isValueByte c = within 97 122 c || within 65 90 c || within 48 57 c || eqb c 47 
 abbrev pub inClass : Class → ℕ → Bool
 inClass Name c = isNameByte c
 inClass Value c = isValueByte c
-inClass Digit c = isDigit c
 
 -- 1 to `most` bytes, each of the class
 unfoldable pub isText : Class → ℕ → List ℕ → Bool

@@ -2,67 +2,20 @@
 -- Assumes nothing.
 use Prim.Native.Nat.{ℕ, _+_, _*_, _-_, _≤_, _<_}
 use mathlib.Core.Path.{_≡_}
-use mathlib.Core.Bool.{Bool, true, false}
+use mathlib.Core.Bool.{true, false}
 use mathlib.Core.List.{List, [], _∷_, _++_}
-use mathlib.Core.Option.{Option, none, some}
+use mathlib.Core.Option.{some}
 use lib.ListN.{length, replicate}
-use lib.IntN.{ℤ}
-use Rattle.grammar.specs.Text.{text, has, all, split, join, listOf}
-use Rattle.grammar.specs.Bytes.{isByte}
-use Rattle.grammar.specs.Units.{bytesOf, charsOf}
-use Rattle.grammar.specs.B64.{sextet, letter, inAlphabet, canonical, decode, encode}
-use Rattle.grammar.specs.Decimal.{digits, decimalText}
-use Rattle.grammar.specs.Numerals.{number, inRange, numeral, least, greatest, decimalReading, limitedReading, limitedNumber, limitedValue}
+use Rattle.text.specs.Text.{text, has, all, split, join, Frees, Fits, listOf}
 use Rattle.grammar.specs.Limits.{longestName, longestValue, longestOutput, mostItems, longestString}
 use Rattle.grammar.specs.Pieces.{Pieces, belongs, pieces, slotOf, afterId, string}
 use Rattle.grammar.specs.Items.{Item, items, itemsOf, paramsText}
-use Rattle.grammar.specs.Rules.{isItem, starts, firstOf, pieceRows, grammarNumber}
+use Rattle.grammar.specs.Rules.{isItem, starts, pieceRows, grammarNumber}
+use Rattle.text.specs.Rows.{firstOf}
 use Rattle.grammar.specs.Layout.{placesOf, spanOf}
 use Rattle.grammar.specs.Parts.{partAt, textOf}
-use Rattle.grammar.specs.declared.decimal.Limited.the-variants.{Value}
-use Rattle.grammar.specs.declared.pieces.Piece.{Piece}
-use Rattle.grammar.specs.declared.pieces.Piece.the-variants.{Version, Params, Salt, Output}
-
-pub record B64Claims : Type 0 where
-  -- the two ways of the alphabet undo each other
-  pub letter-sextet : (c : ℕ) → inAlphabet c ≡ true → letter (sextet c) ≡ c
-  pub sextet-letter : (v : ℕ) → v < 64 → sextet (letter v) ≡ v
-  -- canonical texts and bytes stand for each other, one to one
-  pub encode-decode : (t : List ℕ) → canonical t ≡ true → encode (decode t) ≡ t
-  pub bytes-decode : (t : List ℕ) → canonical t ≡ true → all isByte (decode t) ≡ true
-  pub decode-encode : (b : List ℕ) → all isByte b ≡ true → decode (encode b) ≡ b
-  pub canonical-encode : (b : List ℕ) → all isByte b ≡ true → canonical (encode b) ≡ true
-  -- lengths, in the two units
-  pub length-decode : (t : List ℕ) → length (decode t) ≡ bytesOf (length t)
-  pub length-encode : (b : List ℕ) → length (encode b) ≡ charsOf (length b)
-
-pub record DecimalClaims : Type 0 where
-  -- reader and writer undo each other over the whole signed range
-  pub decimal-back : (z : ℤ) → inRange least greatest z ≡ true → decimalReading (decimalText z) ≡ record { number = 0; value = z }
-  pub back-decimal : (s : List ℕ) → decimalReading s .number ≡ 0 → decimalText (decimalReading s .value) ≡ s
-  -- over any range: a number of it is read from its text, and from no other
-  pub numeral-text : (low high z : ℤ) → inRange low high z ≡ true → numeral low high (decimalText z) ≡ number z
-  pub text-numeral : (low high : ℤ) (s : List ℕ) (z : ℤ) → numeral low high s ≡ number z → (s ≡ decimalText z) × (inRange low high z ≡ true)
-  -- and so for the numerals of the profiles
-  pub limited-digits : (low high n : ℕ) → low ≤ n → n ≤ high → limitedReading low high (digits n) ≡ Value n
-  pub digits-limited : (low high : ℕ) (s : List ℕ) (n : ℕ) → limitedReading low high s ≡ Value n → (s ≡ digits n) × (low ≤ n) × (n ≤ high)
-  -- where the number is 0, the text is that of the value
-  pub limited-zero : (low high : ℕ) (s : List ℕ) → limitedNumber (limitedReading low high s) ≡ 0 → s ≡ digits (limitedValue (limitedReading low high s))
-
--- no part has the separator
-abbrev pub Frees : ℕ → List (List ℕ) → Type 0
-Frees d [] = Unit {0}
-Frees d (p ∷ ps) = (has d p ≡ false) × Frees d ps
-
--- the test fails at the first element, if there is one
-abbrev pub Fails : {A : Type 0} → (A → Bool) → List A → Type 0
-Fails f [] = Unit {0}
-Fails f (x ∷ xs) = f x ≡ false
-
--- what is there passes; where nothing is there, what follows fails
-abbrev pub Fits : {A : Type 0} → (A → Bool) → Option A → List A → Type 0
-Fits f none l = Fails f l
-Fits f (some x) l = f x ≡ true
+use Rattle.grammar.specs.declared.places.Piece.{Piece}
+use Rattle.grammar.specs.declared.places.Piece.the-variants.{Version, Params, Salt, Output}
 
 -- the sorting of these pieces, joined, has them as its outcome: each belongs where it stands, and none has a `$`
 pub record Sorts (p : Pieces) : Type 0 where

@@ -3,7 +3,7 @@
 use Prim.Native.Nat.{ℕ}
 use mathlib.Core.List.{List, [], _∷_, _++_, map}
 use mathlib.Core.Option.{none, some}
-use Rattle.grammar.specs.Text.{parts, join, cut}
+use Rattle.text.specs.Text.{parts, join, cut}
 use Rattle.grammar.specs.Pieces.{Slot}
 
 -- 01's item: its name and its value

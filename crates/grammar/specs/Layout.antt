@@ -9,11 +9,11 @@ use lib.ListN.{length}
 use Rattle.grammar.specs.Pieces.{Slot, Pieces, pieces}
 use Rattle.grammar.specs.Items.{itemsOf}
 use Rattle.grammar.specs.Rules.{grammarNumber}
-use Rattle.grammar.specs.declared.units.Chars.{Chars}
-use Rattle.grammar.specs.declared.pieces.Piece.{Piece}
-use Rattle.grammar.specs.declared.pieces.Piece.the-variants.{Id, Version, Params, Salt, Output}
-use Rattle.grammar.specs.declared.pieces.Span.{Span}
-use Rattle.grammar.specs.declared.pieces.Places.{Places}
+use Rattle.text.specs.declared.units.Chars.{Chars}
+use Rattle.grammar.specs.declared.places.Piece.{Piece}
+use Rattle.grammar.specs.declared.places.Piece.the-variants.{Id, Version, Params, Salt, Output}
+use Rattle.grammar.specs.declared.places.Span.{Span}
+use Rattle.grammar.specs.declared.places.Places.{Places}
 use Rattle.grammar.specs.declared.pieces.Layout.{Layout}
 
 abbrev pub chars : ℕ → Chars

@@ -10,8 +10,8 @@ use lib.ListN.{length, take, drop, getD}
 use Rattle.grammar.specs.Pieces.{Slot, pieces, slotOf}
 use Rattle.grammar.specs.Items.{Item, itemsOf}
 use Rattle.grammar.specs.Rules.{grammarNumber}
-use Rattle.grammar.specs.declared.pieces.Piece.{Piece}
-use Rattle.grammar.specs.declared.pieces.Span.{Span}
+use Rattle.grammar.specs.declared.places.Piece.{Piece}
+use Rattle.grammar.specs.declared.places.Span.{Span}
 
 -- Free answer: the part of a span that does not lie inside is empty
 unfoldable pub partAt : List ℕ → Span → List ℕ

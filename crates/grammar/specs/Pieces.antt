@@ -5,9 +5,9 @@ use mathlib.Core.Bool.{Bool, true, false, _&&_}
 use mathlib.Core.List.{List, [], _∷_, _++_}
 use mathlib.Core.Option.{Option, some}
 use lib.Dec.{eqb}
-use Rattle.grammar.specs.Text.{has, Parts, split, join, headIf, tailIf, listOf}
-use Rattle.grammar.specs.declared.pieces.Piece.{Piece}
-use Rattle.grammar.specs.declared.pieces.Piece.the-variants.{Id, Version, Params, Salt, Output}
+use Rattle.text.specs.Text.{has, Parts, split, join, headIf, tailIf, listOf}
+use Rattle.grammar.specs.declared.places.Piece.{Piece}
+use Rattle.grammar.specs.declared.places.Piece.the-variants.{Id, Version, Params, Salt, Output}
 
 -- a text that may not be there
 abbrev pub Slot : Type 0

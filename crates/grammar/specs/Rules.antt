@@ -1,20 +1,21 @@
 -- The rule of each piece, and rows 1 to 7 of the numbers for bad input.
 -- Assumes nothing.
 use Prim.Native.Nat.{ℕ}
-use mathlib.Core.Bool.{Bool, false, not, cond, _&&_, _||_}
+use mathlib.Core.Bool.{Bool, false, not, _&&_, _||_}
 use mathlib.Core.List.{List, [], _∷_}
 use lib.Dec.{leb, eqb}
 use lib.ListN.{length, drop}
-use Rattle.grammar.specs.Text.{text, within, all, same, empty, broken}
+use Rattle.text.specs.Text.{text, within, all, same, empty, broken}
+use Rattle.text.specs.Rows.{Row, row, firstOf}
 use Rattle.grammar.specs.Bytes.{isText}
-use Rattle.grammar.specs.B64.{canonical}
-use Rattle.grammar.specs.Numerals.{limitedReading, limitedNumber}
+use Rattle.b64.specs.B64.{canonical}
+use Rattle.decimal.specs.Numerals.{limitedReading, limitedNumber}
 use Rattle.grammar.specs.Limits.{longestName, longestValue, longestOutput, mostItems, largestVersion, longestString}
 use Rattle.grammar.specs.Pieces.{Pieces, pieces}
 use Rattle.grammar.specs.Items.{Item, items}
 use Rattle.grammar.specs.declared.classes.Class.the-variants.{Name, Value}
-use Rattle.grammar.specs.declared.pieces.Piece.{Piece}
-use Rattle.grammar.specs.declared.pieces.Piece.the-variants.{Id, Version, Params, Salt, Output}
+use Rattle.grammar.specs.declared.places.Piece.{Piece}
+use Rattle.grammar.specs.declared.places.Piece.the-variants.{Id, Version, Params, Salt, Output}
 
 -- an id, or the name of a parameter
 abbrev pub isName : List ℕ → Bool
@@ -53,19 +54,6 @@ starts [] = false
 starts (c ∷ s) = eqb c 36
 
 -- ---- rows
-
--- a row: its number, and whether it applies
-pub record Row : Type 0 where
-  pub number : ℕ
-  pub applies : Bool
-
-abbrev pub row : ℕ → Bool → Row
-row n b = record { number = n; applies = b }
-
--- the first row that applies is the number; 0 where none does
-abbrev pub firstOf : List Row → ℕ
-firstOf [] = 0
-firstOf (r ∷ rs) = cond (r .applies) (r .number) (firstOf rs)
 
 -- no bytes, more than 2,896, or first byte not `$`
 unfoldable pub badWhole : List ℕ → Bool

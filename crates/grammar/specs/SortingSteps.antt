@@ -4,11 +4,11 @@ use Prim.Native.Nat.{ℕ}
 use mathlib.Core.Path.{_≡_}
 use mathlib.Core.Bool.{not}
 use mathlib.Core.List.{List}
-use Rattle.grammar.specs.Text.{partsFrom, empty, headIf, tailIf}
+use Rattle.text.specs.Text.{partsFrom, empty, headIf, tailIf}
 use Rattle.grammar.specs.Pieces.{Slot, Pieces, belongs}
 use Rattle.grammar.specs.Layout.{spanFrom, past, placesOf}
-use Rattle.grammar.specs.declared.pieces.Piece.{Piece}
-use Rattle.grammar.specs.declared.pieces.Span.{Span}
+use Rattle.grammar.specs.declared.places.Piece.{Piece}
+use Rattle.grammar.specs.declared.places.Span.{Span}
 use Rattle.grammar.specs.declared.sorting.Sorted.{Sorted}
 
 -- the piece asked for, if it is the next

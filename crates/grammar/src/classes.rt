@@ -2,23 +2,13 @@
 use crate::bytes::is_name_byte;
 use crate::bytes::is_value_byte;
 ghost use mathlib.Core.Path.{_≡_};
-ghost use Rattle.grammar.specs.Text.{all};
-ghost use Rattle.grammar.specs.Bytes.{isDigit, inClass, isText};
+ghost use Rattle.text.specs.Text.{all};
+ghost use Rattle.grammar.specs.Bytes.{inClass, isText};
 
-// The bytes of names, of values and salts, and of decimals.
+// The bytes of names, and of values and salts.
 pub enum Class {
     Name,
     Value,
-    Digit,
-}
-
-fn is_digit(c: u8) -> bool
-    ensures { λ r. ⌜ r ≡ isDigit c ⌝ }
-{
-    match c {
-        b'0'..=b'9' => true,
-        _ => false,
-    }
 }
 
 fn in_class(class: Class, c: u8) -> bool
@@ -27,7 +17,6 @@ fn in_class(class: Class, c: u8) -> bool
     match class {
         Class::Name => is_name_byte(c),
         Class::Value => is_value_byte(c),
-        Class::Digit => is_digit(c),
     }
 }
 

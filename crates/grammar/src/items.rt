@@ -1,15 +1,15 @@
 // The items of a parameter piece.
-use crate::bytes::is_name;
 use crate::classes::Class;
 use crate::classes::is_text;
 use crate::limits::LONGEST_VALUE;
 use crate::limits::MOST_ITEMS;
-use crate::scan::next_at;
-use crate::scan::same_text;
+use crate::names::is_name;
+use text::scan::next_at;
+use text::scan::same_text;
 ghost use mathlib.Core.Path.{_≡_};
 ghost use mathlib.Core.List.{[]};
 ghost use lib.ListN.{length, getD};
-ghost use Rattle.grammar.specs.Text.{parts, cut};
+ghost use Rattle.text.specs.Text.{parts, cut};
 ghost use Rattle.grammar.specs.Items.{items};
 ghost use Rattle.grammar.specs.Rules.{isItem, isParams};
 

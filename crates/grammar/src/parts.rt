@@ -2,26 +2,12 @@
 use crate::items::name_part;
 use crate::items::nth_item;
 use crate::items::value_part;
-use crate::pieces::Piece;
-use crate::pieces::Span;
 use crate::pieces::read;
-use crate::place::has_room;
-use crate::sorting::span_of;
+use crate::places::Piece;
+use crate::places::part;
+use crate::places::span_of;
 ghost use mathlib.Core.Path.{_≡_};
-ghost use Rattle.grammar.specs.Parts.{partAt, pieceText, itemAt};
-
-// The part at a place and of a length; empty where it doesn't lie inside.
-pub fn part(s: &[u8], span: Span) -> &[u8]
-    ensures { λ r. ⌜ now r ≡ partAt (now (s .entry)) span ⌝ }
-{
-    let at = span.at;
-    let len = span.len.0;
-    if has_room(s.len(), at, len) {
-        let end = at + len;
-        return &s[at..end];
-    }
-    &s[0..0]
-}
+ghost use Rattle.grammar.specs.Parts.{pieceText, itemAt};
 
 // A piece; empty where it is not there or the string is refused.
 pub fn piece(s: &[u8], which: Piece) -> &[u8]

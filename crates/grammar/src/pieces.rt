@@ -1,35 +1,13 @@
 // The grammar reader: where the pieces of a string stand, or the number of the row that refuses it.
+use crate::places::Places;
+use crate::places::Span;
 use crate::rules::bad_whole;
 use crate::rules::items_of;
 use crate::rules::number_of;
 use crate::sorting::sort;
-use crate::units::Chars;
+use text::units::Chars;
 ghost use mathlib.Core.Path.{_≡_};
 ghost use Rattle.grammar.specs.Layout.{refusedLayout, layout};
-
-// 01's pieces: the bytes after a `$`; the version includes its `v=`, the parameters their commas.
-pub enum Piece {
-    Id,
-    Version,
-    Params,
-    Salt,
-    Output,
-}
-
-// Where a piece stands: its place and its length; 0 and 0 for an absent one.
-pub struct Span {
-    pub at: usize,
-    pub len: Chars,
-}
-
-// Where the five pieces stand.
-pub struct Places {
-    pub id: Span,
-    pub version: Span,
-    pub params: Span,
-    pub salt: Span,
-    pub output: Span,
-}
 
 // What the reader gives; on refusal every place, length and count is 0.
 pub struct Layout {

@@ -1,14 +1,13 @@
 // Sorting the pieces of a string: the id, then the version, the parameters, the salt and the output where they are there.
-use crate::pieces::Piece;
-use crate::pieces::Places;
-use crate::pieces::Span;
-use crate::scan::next_at;
-use crate::units::Chars;
+use crate::places::Piece;
+use crate::places::Places;
+use crate::places::Span;
+use text::scan::next_at;
+use text::units::Chars;
 ghost use mathlib.Core.Path.{_≡_};
 ghost use mathlib.Core.Bool.{true};
 ghost use Rattle.grammar.specs.Pieces.{isVersionPiece, belongs, pieces};
 ghost use Rattle.grammar.specs.Rules.{starts};
-ghost use Rattle.grammar.specs.Layout.{spanOf};
 ghost use Rattle.grammar.specs.SortingSteps.{Stepped, sortedOf};
 
 // `more`: pieces remain after the output.
@@ -21,18 +20,6 @@ pub struct Sorted {
 pub struct Step {
     pub span: Span,
     pub next: usize,
-}
-
-pub fn span_of(places: Places, which: Piece) -> Span
-    ensures { λ r. ⌜ r ≡ spanOf places which ⌝ }
-{
-    match which {
-        Piece::Id => places.id,
-        Piece::Version => places.version,
-        Piece::Params => places.params,
-        Piece::Salt => places.salt,
-        Piece::Output => places.output,
-    }
 }
 
 fn begins_version(text: &[u8]) -> bool

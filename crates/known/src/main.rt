@@ -1,11 +1,7 @@
 // The known strings of documents 000 and 002, one on each line of standard input: read and, where accepted, written back. Which are
 // good the documents say; the numbers are document 01's. Four strings of our own stand last, for row 15, which no string of 000 reaches.
-use grammar::parts::part;
-use grammar::pieces::Span;
-use grammar::place::Written;
-use grammar::scan::next_at;
-use grammar::scan::same_text;
-use grammar::units::Bytes;
+use grammar::places::Span;
+use grammar::places::part;
 use libc::STDIN_FILENO;
 use libc::STDOUT_FILENO;
 use profile::fields::ByteString;
@@ -13,6 +9,10 @@ use profile::fields::Fields;
 use profile::reader::byte_string;
 use profile::reader::read;
 use profile::writer::write;
+use text::place::Written;
+use text::scan::next_at;
+use text::scan::same_text;
+use text::units::Bytes;
 
 // Room for the longest byte string, an output of 64 bytes.
 const ROOM: usize = 64;

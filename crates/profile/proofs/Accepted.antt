@@ -10,17 +10,17 @@ use native.Mathlib.Omega.{arith}
 use lib.Dec.{leb}
 use lib.ListN.{length}
 use borrow.Author.Tests.{ltb-false}
-use Rattle.grammar.specs.Text.{within, all, empty, split, headIf, tailIf, broken}
+use Rattle.text.specs.Text.{within, all, empty, split, headIf, tailIf, broken}
 use Rattle.grammar.specs.Bytes.{isText}
-use Rattle.grammar.specs.B64.{canonical, decode}
+use Rattle.b64.specs.B64.{canonical, decode}
 use Rattle.grammar.specs.Limits.{longestValue, mostItems}
 use Rattle.grammar.specs.Pieces.{Slot, Pieces, isVersionPiece, belongs, afterFirst, pieces, string}
 use Rattle.grammar.specs.Items.{Item, items, itemsOf, paramsText}
 use Rattle.grammar.specs.Rules.{isValue, isItem, isParams, isOutput, pieceRows, grammarRows}
-use Rattle.grammar.specs.declared.pieces.Piece.the-variants.{Version, Params, Salt, Output}
-use Rattle.grammar.proofs.Tests.{both, and-true, neither, not-of-true, is-true}
-use Rattle.grammar.proofs.Rows.{Clear, clear}
-use Rattle.grammar.proofs.B64Laws.{canonical-values}
+use Rattle.grammar.specs.declared.places.Piece.the-variants.{Version, Params, Salt, Output}
+use Rattle.text.proofs.Tests.{both, and-true, neither, not-of-true, is-true}
+use Rattle.text.proofs.Rows.{Clear, clear}
+use Rattle.grammar.proofs.ValueBytes.{canonical-values}
 use Rattle.grammar.proofs.ItemLaws.{item-value, params-items}
 use Rattle.grammar.proofs.PieceLaws.{string-pieces}
 use Rattle.grammar.proofs.Reading.{whole-starts}

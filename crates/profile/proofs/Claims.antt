@@ -8,10 +8,10 @@ use native.Mathlib.Omega.{arith}
 use lib.Dec.{leb}
 use lib.ListN.{length, take, drop, replicate, length-append}
 use borrow.Author.Tests.{leb-true, le-leb, lt-leb}
-use Rattle.grammar.specs.Place.{Outcome, outcome, over}
+use Rattle.text.specs.Place.{Outcome, outcome, over}
 use Rattle.grammar.specs.Pieces.{Pieces, pieces}
-use Rattle.grammar.proofs.Tests.{from-within}
-use Rattle.grammar.proofs.Writing.{over-back, after-zero, after-done}
+use Rattle.text.proofs.Tests.{from-within}
+use Rattle.text.proofs.Writing.{over-back, after-zero, after-done}
 use Rattle.profile.specs.Limits.{Profile, lowest, highest, profileOf, editionTwo, room}
 use Rattle.profile.specs.Fields.{FieldSet, chosen, writeBytes}
 use Rattle.profile.specs.Reader.{answer, fieldsOf}

@@ -1,7 +1,7 @@
 -- One number, one byte string and the version: what is read back from what is written, and the other way round.
 -- Assumes nothing.
 use Prim.Native.Nat.{ℕ, suc, _+_, _/_, _%_, _≤_}
-use mathlib.Core.Bool.{Bool, true, false, cond, _&&_, _||_, or-true, true≢false, false≢true}
+use mathlib.Core.Bool.{Bool, true, false, cond, _||_, or-true, true≢false, false≢true}
 use mathlib.Core.List.{List, [], _∷_}
 use mathlib.Core.Option.{none, some}
 use mathlib.Core.Path.{_≡_, refl, sym, _∙_, ap}
@@ -9,22 +9,23 @@ use native.Mathlib.Omega.{arith}
 use lib.Dec.{leb, eqb}
 use lib.ListN.{length}
 use borrow.Author.Tests.{eqb-true, eq-eqb, leb-true}
-use Rattle.grammar.specs.Text.{within, all, has, empty, broken}
-use Rattle.grammar.specs.Bytes.{isByte, isValueByte, isText}
-use Rattle.grammar.specs.Units.{charsOf}
+use Rattle.text.specs.Text.{within, all, has, empty, broken, isByte}
+use Rattle.grammar.specs.Bytes.{isValueByte, isText}
+use Rattle.b64.specs.Lengths.{charsOf}
 use Rattle.grammar.specs.Limits.{longestValue, largestVersion}
-use Rattle.grammar.specs.Decimal.{digits}
-use Rattle.grammar.specs.Numerals.{limitedReading, limitedNumber, limitedValue}
-use Rattle.grammar.specs.B64.{canonical, decode, encode}
+use Rattle.decimal.specs.Decimal.{digits}
+use Rattle.decimal.specs.Numerals.{limitedReading, limitedNumber, limitedValue}
+use Rattle.b64.specs.B64.{canonical, decode, encode}
 use Rattle.grammar.specs.Pieces.{Slot, isVersionPiece}
 use Rattle.grammar.specs.Rules.{isValue, isVersion, isOutput}
-use Rattle.grammar.specs.declared.decimal.Limited.{Limited}
-use Rattle.grammar.specs.declared.decimal.Limited.the-variants.{Malformed, Outside, Value}
-use Rattle.grammar.proofs.Tests.{both, and-true, not-of-true, is-true, from-within, to-within}
-use Rattle.grammar.proofs.Lists.{all-append}
-use Rattle.grammar.proofs.DecimalLaws.{by-tens, digits-small, digits-step, length-pos, length-digits}
-use Rattle.grammar.proofs.NumeralLaws.{limited-digits, digits-limited}
-use Rattle.grammar.proofs.B64Laws.{encode-decode, decode-encode, canonical-encode, bytes-decode, canonical-values, length-encode}
+use Rattle.decimal.specs.declared.reader.Limited.{Limited}
+use Rattle.decimal.specs.declared.reader.Limited.the-variants.{Malformed, Outside, Value}
+use Rattle.text.proofs.Tests.{both, and-true, not-of-true, is-true, from-within, to-within}
+use Rattle.text.proofs.Lists.{all-append}
+use Rattle.decimal.proofs.DecimalLaws.{by-tens, digits-small, digits-step, length-pos, length-digits}
+use Rattle.decimal.proofs.NumeralLaws.{limited-digits, digits-limited}
+use Rattle.b64.proofs.B64Laws.{encode-decode, decode-encode, canonical-encode, bytes-decode, length-encode}
+use Rattle.grammar.proofs.ValueBytes.{canonical-values}
 use Rattle.profile.specs.declared.limits.NumberRule.{NumberRule}
 use Rattle.profile.specs.declared.limits.NumberRule.the-variants.{Needed, Omitted, Fixed}
 use Rattle.profile.specs.declared.limits.BytesRule.{BytesRule}

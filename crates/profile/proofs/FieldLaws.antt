@@ -2,14 +2,14 @@
 -- Assumes nothing.
 use Prim.Native.Nat.{ℕ}
 use mathlib.Core.Bool.{Bool, true, false, not, cond, true≢false}
-use mathlib.Core.Path.{_≡_, refl, sym, ap}
+use mathlib.Core.Path.{_≡_, refl, ap}
 use mathlib.Core.List.{List}
 use mathlib.Core.Option.{none, some}
 use lib.Dec.{eqb}
-use Rattle.grammar.specs.Rules.{firstOf}
+use Rattle.text.specs.Rows.{firstOf}
 use Rattle.grammar.specs.Parts.{partAt}
-use Rattle.grammar.specs.Numerals.{limitedValue}
-use Rattle.grammar.specs.declared.pieces.Span.{Span}
+use Rattle.decimal.specs.Numerals.{limitedValue}
+use Rattle.grammar.specs.declared.places.Span.{Span}
 use Rattle.profile.proofs.SlotLaws.{slot-some}
 use Rattle.profile.specs.Reader.{numberRow}
 use Rattle.profile.specs.Fields.{numberReading, misplacedNumber, readNumber, writtenOut, misplacedBytes}

@@ -8,9 +8,9 @@ use native.Mathlib.Omega.{arith}
 use borrow.Author.Tests.{ltb-true, ltb-false, lt-ltb, le-ltb}
 use lib.Dec.{ltb}
 use Rattle.grammar.specs.Pieces.{Slot}
-use Rattle.grammar.specs.Rules.{Row, firstOf}
-use Rattle.grammar.proofs.Tests.{neither}
-use Rattle.grammar.proofs.Rows.{Clear, positive, clear}
+use Rattle.text.specs.Rows.{Row, firstOf}
+use Rattle.text.proofs.Tests.{neither}
+use Rattle.text.proofs.Rows.{Clear, positive, clear}
 use Rattle.profile.specs.Fields.{misplacedNumber, misplacedBytes}
 use Rattle.profile.specs.Reader.{slotAt, misplaced}
 use Rattle.profile.specs.ReaderSteps.{NumbersAre, Judged}

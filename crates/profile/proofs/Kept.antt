@@ -5,9 +5,9 @@ use mathlib.Core.Bool.{true, false, not, _&&_}
 use mathlib.Core.List.{List}
 use mathlib.Core.Path.{_≡_, refl}
 use borrow.Author.Tests.{ltb-false, le-ltb}
-use Rattle.grammar.specs.Text.{empty}
-use Rattle.grammar.proofs.Tests.{not-of-true, is-true}
-use Rattle.grammar.proofs.Rows.{clear, zero-of}
+use Rattle.text.specs.Text.{empty}
+use Rattle.text.proofs.Tests.{not-of-true, is-true}
+use Rattle.text.proofs.Rows.{clear, zero-of}
 use Rattle.profile.specs.Limits.{Profile, inRange, versionAllowed, profileOf}
 use Rattle.profile.specs.Fields.{FieldSet}
 use Rattle.profile.specs.Writer.{bytesAllowed, OfBytes, Permitted, writerRows, refusal}

@@ -1,28 +1,28 @@
 -- The length of the string that fields are written to, the most that an entry allows, and the least of a hash string.
 -- Assumes nothing.
-use Prim.Native.Nat.{ℕ, suc, _+_, _/_, _≤_, _<_, max}
+use Prim.Native.Nat.{ℕ, _+_, _/_, _≤_, _<_, max}
 use mathlib.Core.Bool.{Bool, true, false, not, cond, _&&_, _||_, true≢false, false≢true}
-use mathlib.Core.List.{List, [], _∷_, _++_, map}
+use mathlib.Core.List.{List, [], _∷_}
 use mathlib.Core.Option.{none, some}
 use mathlib.Core.Path.{_≡_, refl, ap}
 use native.Mathlib.Omega.{arith}
 use lib.Dec.{leb, eqb}
-use lib.ListN.{length, length-append}
+use lib.ListN.{length}
 use borrow.Author.Tests.{leb-true, eqb-true}
-use Rattle.grammar.specs.Text.{has, empty}
-use Rattle.grammar.specs.Units.{charsOf}
-use Rattle.grammar.specs.Decimal.{digitsWithin, digits}
+use Rattle.text.specs.Text.{has, empty}
+use Rattle.b64.specs.Lengths.{charsOf}
+use Rattle.decimal.specs.Decimal.{digitsWithin, digits}
 use Rattle.grammar.specs.Limits.{longestString}
-use Rattle.grammar.specs.Place.{refused, putAfter}
-use Rattle.grammar.proofs.Tests.{both, from-within}
-use Rattle.grammar.proofs.DecimalLaws.{by-tens, length-small, length-step, length-pos}
-use Rattle.grammar.proofs.B64Laws.{length-encode}
+use Rattle.text.specs.Place.{refused, putAfter}
+use Rattle.text.proofs.Tests.{both, from-within}
+use Rattle.decimal.proofs.DecimalLaws.{by-tens, length-small, length-step, length-pos}
+use Rattle.b64.proofs.B64Laws.{length-encode}
 use Rattle.grammar.proofs.Reading.{whole-long}
 use Rattle.profile.specs.declared.limits.NumberRule.{NumberRule}
 use Rattle.profile.specs.declared.limits.NumberRule.the-variants.{Needed, Omitted, Fixed}
 use Rattle.profile.specs.declared.limits.BytesRule.{BytesRule}
 use Rattle.profile.specs.declared.limits.BytesRule.the-variants.{Sized, Barred}
-use Rattle.profile.specs.Limits.{Profile, inRange, versionAllowed, profileOf, editionTwo, room}
+use Rattle.profile.specs.Limits.{Profile, inRange, versionAllowed, editionTwo, room}
 use Rattle.profile.specs.Fields.{FieldSet, writeNumber, writeBytes, writeVersion}
 use Rattle.profile.specs.Reader.{answer}
 use Rattle.profile.specs.Writer.{bytesAllowed, formatted}

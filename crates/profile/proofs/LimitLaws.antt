@@ -8,7 +8,7 @@ use native.Mathlib.Omega.{arith}
 use borrow.Author.Tests.{eqb-true, eqb-false, ne-eqb, lt-leb, le-ltb}
 use lib.Dec.{leb, ltb, eqb}
 use lib.ListN.{length}
-use Rattle.grammar.specs.Text.{has}
+use Rattle.text.specs.Text.{has}
 use Rattle.profile.specs.Limits.{limitsOf, profileOf, editionTwo, versionAllowed}
 use Rattle.profile.specs.Writer.{shortFields}
 use Rattle.profile.specs.declared.fields.Version.the-variants.{Absent, Number}

@@ -9,21 +9,22 @@ use native.Mathlib.Omega.{arith}
 use lib.Dec.{eqb}
 use lib.ListN.{length}
 use borrow.Author.Tests.{eqb-true, eqb-false, ne-eqb}
-use Rattle.grammar.specs.Text.{within, all, empty, broken}
-use Rattle.grammar.specs.Place.{refused, putAfter}
-use Rattle.grammar.specs.B64.{sextet, lowBitsZero, canonical, decode, decodeNumber, decoding}
+use Rattle.text.specs.Text.{within, all, empty, broken}
+use Rattle.text.specs.Place.{refused, putAfter}
+use Rattle.b64.specs.B64.{sextet, lowBitsZero, canonical, decode, decodeNumber, decoding}
 use Rattle.grammar.specs.Pieces.{Slot, pieces, slotOf}
 use Rattle.grammar.specs.Items.{Item, items, itemsOf}
-use Rattle.grammar.specs.Rules.{firstOf, isItem, isOutput, grammarRows, grammarNumber}
+use Rattle.text.specs.Rows.{firstOf}
+use Rattle.grammar.specs.Rules.{isItem, isOutput, grammarRows, grammarNumber}
 use Rattle.grammar.specs.Layout.{placesOf, spanOf}
 use Rattle.grammar.specs.Parts.{partAt, textOf}
-use Rattle.grammar.specs.declared.pieces.Piece.{Piece}
-use Rattle.grammar.specs.declared.pieces.Piece.the-variants.{Id, Params, Version as Piece·Version, Salt as Piece·Salt, Output as Piece·Output}
-use Rattle.grammar.specs.declared.pieces.Span.{Span}
-use Rattle.grammar.specs.declared.pieces.Places.{Places}
-use Rattle.grammar.proofs.Tests.{both, neither, is-true}
-use Rattle.grammar.proofs.Writing.{put-refused}
-use Rattle.grammar.proofs.Rows.{Clear, clear}
+use Rattle.grammar.specs.declared.places.Piece.{Piece}
+use Rattle.grammar.specs.declared.places.Piece.the-variants.{Id, Params, Version as Piece·Version, Salt as Piece·Salt, Output as Piece·Output}
+use Rattle.grammar.specs.declared.places.Span.{Span}
+use Rattle.grammar.specs.declared.places.Places.{Places}
+use Rattle.text.proofs.Tests.{both, is-true}
+use Rattle.text.proofs.Writing.{put-refused}
+use Rattle.text.proofs.Rows.{Clear, clear}
 use Rattle.grammar.proofs.Reading.{accepted-rows, accepted-starts, slot-absent, slot-present, piece-part}
 use Rattle.profile.specs.declared.limits.BytesRule.{BytesRule}
 use Rattle.profile.specs.declared.fields.Version.{Version}

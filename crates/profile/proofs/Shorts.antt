@@ -6,9 +6,8 @@ use mathlib.Core.Bool.{Bool, true, false}
 use mathlib.Core.List.{List, []}
 use mathlib.Core.Path.{_≡_, refl, sym, ap, _∙_}
 use borrow.Author.Tests.{le-ltb}
-use Rattle.grammar.specs.Text.{all}
-use Rattle.grammar.specs.Bytes.{isByte}
-use Rattle.grammar.specs.Place.{putAfter}
+use Rattle.text.specs.Text.{all, isByte}
+use Rattle.text.specs.Place.{putAfter}
 use Rattle.profile.specs.Limits.{Profile, profileOf, editionTwo}
 use Rattle.profile.specs.Writer.{Permitted, refusal, formatted, shortFields, shortRefusal}
 use Rattle.profile.specs.Claims.{ShortAgrees}

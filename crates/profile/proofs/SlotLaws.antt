@@ -6,7 +6,7 @@ use mathlib.Core.List.{List}
 use mathlib.Core.Option.{none, some}
 use borrow.Author.Tests.{eq-eqb, ne-eqb}
 use Rattle.grammar.specs.Parts.{partAt}
-use Rattle.grammar.specs.declared.pieces.Span.{Span}
+use Rattle.grammar.specs.declared.places.Span.{Span}
 use Rattle.profile.specs.ReaderSteps.{slotIn}
 
 module _ (s : List ℕ) (w : Span) where

@@ -9,11 +9,11 @@ use native.Mathlib.Nat.{add-zero, add-suc, suc-add}
 use lib.Dec.{leb, eqb, eqb·suc-zero}
 use lib.ListN.{getD}
 use borrow.Author.Tests.{eqb-true, leb-true}
-use Rattle.grammar.specs.Text.{same}
+use Rattle.text.specs.Text.{same}
 use Rattle.grammar.specs.Bytes.{isNameByte, isText}
 use Rattle.grammar.specs.Rules.{isName}
-use Rattle.grammar.proofs.Tests.{both}
-use Rattle.grammar.proofs.Lists.{same-eq}
+use Rattle.text.proofs.Tests.{both}
+use Rattle.text.proofs.Lists.{same-eq}
 use Rattle.profile.specs.Limits.{Profile, inRange, versionAllowed, next, idOf, nobody, profileOf, editionTwo}
 use Rattle.profile.specs.Sound.{every, soundNumber, soundBytes, soundVersions, soundAt, sound, usualAt, usualSound}
 

@@ -6,7 +6,7 @@ use mathlib.Core.Option.{none, some}
 use mathlib.Core.Path.{_≡_, refl, sym, _∙_, ap}
 use native.Mathlib.Omega.{arith}
 use lib.ListN.{length, length-append}
-use Rattle.grammar.specs.Text.{text, join, listOf}
+use Rattle.text.specs.Text.{text, join, listOf}
 use Rattle.grammar.specs.Pieces.{Slot}
 use Rattle.grammar.specs.Items.{Item, itemText, paramsText}
 use Rattle.profile.specs.Limits.{Profile, limitsOf, profileOf}

@@ -10,17 +10,17 @@ use borrow.Author.Tests.{le-leb}
 use lib.Dec.{leb, eqb}
 use lib.ListN.{length, take, drop, length-drop}
 use lib.Seq.{length-take-le, take-take, take-add, drop-at, drop-drop}
-use Rattle.grammar.specs.Text.{text, all, same, empty, find, cut, within, tailIf, partsFrom}
+use Rattle.text.specs.Text.{text, all, same, empty, find, cut, within, tailIf, partsFrom}
 use Rattle.grammar.specs.Bytes.{isValueByte, isText}
 use Rattle.grammar.specs.Pieces.{Slot}
 use Rattle.grammar.specs.Items.{Item, items}
 use Rattle.grammar.specs.Rules.{isValue, isItem}
 use Rattle.grammar.specs.Layout.{span}
 use Rattle.grammar.specs.Parts.{partAt}
-use Rattle.grammar.specs.declared.pieces.Span.{Span}
-use Rattle.grammar.proofs.Tests.{both, from-within}
-use Rattle.grammar.proofs.Scanning.{find-from-le}
-use Rattle.grammar.proofs.Splitting.{from-past, some-from, cut-before, cut-after}
+use Rattle.grammar.specs.declared.places.Span.{Span}
+use Rattle.text.proofs.Tests.{both, from-within}
+use Rattle.text.proofs.Scanning.{find-from-le}
+use Rattle.text.proofs.Splitting.{from-past, some-from, cut-before, cut-after}
 use Rattle.grammar.proofs.Spans.{part-inside}
 use Rattle.grammar.proofs.ItemLaws.{items-start, items-to, item-value}
 use Rattle.profile.specs.Reader.{names, named, slots, strangers}

@@ -10,12 +10,11 @@ use native.Mathlib.Omega.{arith}
 use borrow.Author.Tests.{leb-true, leb-false}
 use borrow.Rule.Slice.PartMut.{putMid}
 use lib.ListN.{length, take, drop, set}
-use Rattle.grammar.specs.Text.{empty}
-use Rattle.grammar.specs.B64.{encode}
-use Rattle.grammar.specs.Place.{outcome, refused, hasRoom, over}
-use Rattle.grammar.specs.PlaceSteps.{Wrote}
-use Rattle.grammar.proofs.Writing.{put-done, put-full, put-clear, tail-over}
-use Rattle.grammar.proofs.Over.{over-start}
+use Rattle.text.specs.Text.{empty}
+use Rattle.b64.specs.B64.{encode}
+use Rattle.text.specs.Place.{outcome, refused, hasRoom, over, Wrote}
+use Rattle.text.proofs.Writing.{put-done, put-full, put-clear, tail-over}
+use Rattle.text.proofs.Over.{over-start}
 use Rattle.profile.specs.Limits.{isSize, limitsOf, editionTwo, room}
 use Rattle.profile.specs.Fields.{FieldSet, writeBytes}
 use Rattle.profile.specs.Writer.{bytesAllowed, refusal, formatted}

@@ -9,18 +9,18 @@ use native.Mathlib.Omega.{arith}
 use lib.Dec.{leb, eqb}
 use lib.ListN.{length}
 use borrow.Author.Tests.{eq-eqb, le-leb, le-ltb}
-use Rattle.grammar.specs.Text.{text, all, has, same, empty, join, listOf, broken}
+use Rattle.text.specs.Text.{text, all, has, same, empty, join, listOf, broken, Frees, Fails, Fits}
 use Rattle.grammar.specs.Bytes.{isNameByte, isValueByte, isText}
-use Rattle.grammar.specs.Decimal.{digits}
+use Rattle.decimal.specs.Decimal.{digits}
 use Rattle.grammar.specs.Limits.{mostItems}
 use Rattle.grammar.specs.Pieces.{Slot, Pieces, isVersionPiece, belongs, pieces, string}
 use Rattle.grammar.specs.Items.{Item, itemText, itemsOf, paramsText}
 use Rattle.grammar.specs.Rules.{isName, isValue, isItem, isParams, pieceRows, grammarRows}
-use Rattle.grammar.specs.Claims.{Frees, Fails, Fits, Sorts}
-use Rattle.grammar.specs.declared.pieces.Piece.the-variants.{Version as Piece·Version, Params, Salt, Output}
-use Rattle.grammar.proofs.Tests.{both, and-true, neither, or-false, not-of-true, is-true, is-false}
-use Rattle.grammar.proofs.Rows.{Clear, zero-of, clear-append}
-use Rattle.grammar.proofs.Lists.{not-in, has-append}
+use Rattle.grammar.specs.Claims.{Sorts}
+use Rattle.grammar.specs.declared.places.Piece.the-variants.{Version as Piece·Version, Params, Salt, Output}
+use Rattle.text.proofs.Tests.{both, and-true, neither, or-false, not-of-true, is-true, is-false}
+use Rattle.text.proofs.Rows.{Clear, zero-of, clear-append}
+use Rattle.text.proofs.Lists.{not-in, has-append}
 use Rattle.grammar.proofs.ItemLaws.{joined, items-params, item-free, items-free, name-free, value-free}
 use Rattle.grammar.proofs.PieceLaws.{pieces-string}
 use Rattle.grammar.proofs.Reading.{whole-first}

@@ -8,9 +8,8 @@ use mathlib.Core.Bool.{true, false}
 use mathlib.Core.List.{List, map}
 use mathlib.Core.Logic.{_↔_, _≢_}
 use lib.ListN.{length}
-use Rattle.grammar.specs.Text.{text, all, empty}
-use Rattle.grammar.specs.Bytes.{isByte}
-use Rattle.grammar.specs.Place.{outcome, over}
+use Rattle.text.specs.Text.{text, all, empty, isByte}
+use Rattle.text.specs.Place.{outcome, over}
 use Rattle.profile.specs.Limits.{Profile, editionTwo, room}
 use Rattle.profile.specs.Fields.{FieldSet, chosen, writeBytes}
 use Rattle.profile.specs.Reader.{answer, fieldsOf}

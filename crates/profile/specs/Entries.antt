@@ -6,7 +6,7 @@ use mathlib.Core.List.{List, _++_}
 use mathlib.Core.Option.{none, some}
 use lib.Dec.{eqb}
 use lib.ListN.{length}
-use Rattle.grammar.specs.Place.{Outcome, putAfter}
+use Rattle.text.specs.Place.{Outcome, putAfter}
 use Rattle.grammar.specs.Pieces.{Slot, pieces}
 use Rattle.profile.specs.Limits.{Profile, profileOf}
 use Rattle.profile.specs.Fields.{FieldSet, chosen}

@@ -6,13 +6,13 @@ use mathlib.Core.List.{List, [], _∷_, _++_}
 use mathlib.Core.Option.{none, some}
 use lib.Dec.{eqb}
 use lib.ListN.{length, drop}
-use Rattle.grammar.specs.Text.{text}
-use Rattle.grammar.specs.Decimal.{digits}
-use Rattle.grammar.specs.Numerals.{limitedReading, limitedNumber, limitedValue}
+use Rattle.text.specs.Text.{text}
+use Rattle.decimal.specs.Decimal.{digits}
+use Rattle.decimal.specs.Numerals.{limitedReading, limitedNumber, limitedValue}
 use Rattle.grammar.specs.Limits.{largestVersion}
-use Rattle.grammar.specs.B64.{canonical, decode, encode}
+use Rattle.b64.specs.B64.{canonical, decode, encode}
 use Rattle.grammar.specs.Pieces.{Slot}
-use Rattle.grammar.specs.declared.decimal.Limited.{Limited}
+use Rattle.decimal.specs.declared.reader.Limited.{Limited}
 use Rattle.profile.specs.Limits.{lowest, highest, isSize}
 use Rattle.profile.specs.declared.limits.NumberRule.{NumberRule}
 use Rattle.profile.specs.declared.limits.NumberRule.the-variants.{Needed, Omitted, Fixed}

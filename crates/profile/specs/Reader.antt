@@ -6,10 +6,11 @@ use mathlib.Core.List.{List, [], _∷_, _++_}
 use mathlib.Core.Option.{Option, none, some}
 use lib.Dec.{ltb, eqb}
 use lib.ListN.{getD}
-use Rattle.grammar.specs.Text.{text, same, empty, headIf, tailIf, broken}
+use Rattle.text.specs.Text.{text, same, empty, headIf, tailIf, broken}
 use Rattle.grammar.specs.Pieces.{Slot, Pieces, pieces}
 use Rattle.grammar.specs.Items.{Item, itemsOf}
-use Rattle.grammar.specs.Rules.{Row, row, firstOf, grammarRows}
+use Rattle.text.specs.Rows.{Row, row, firstOf}
+use Rattle.grammar.specs.Rules.{grammarRows}
 use Rattle.profile.specs.Limits.{Profile, limitsOf, versionAllowed, idOf, profileOf}
 use Rattle.profile.specs.Fields.{FieldSet, isNumber, misplacedNumber, readNumber, writtenOut, misplacedBytes, isSized, isBytes, readBytes, readVersion}
 use Rattle.profile.specs.declared.limits.NumberRule.{NumberRule}

@@ -4,8 +4,8 @@ use Prim.Native.Nat.{ℕ, suc, _*_}
 use mathlib.Core.Bool.{Bool, true, not, _&&_, _||_}
 use mathlib.Core.List.{List, [], _∷_}
 use lib.Dec.{leb, eqb}
-use Rattle.grammar.specs.Text.{within, all}
-use Rattle.grammar.specs.Units.{charsOf}
+use Rattle.text.specs.Text.{within, all}
+use Rattle.b64.specs.Lengths.{charsOf}
 use Rattle.grammar.specs.Limits.{longestValue, largestVersion}
 use Rattle.grammar.specs.Rules.{isName}
 use Rattle.profile.specs.declared.limits.NumberRule.{NumberRule}

@@ -7,11 +7,10 @@ use mathlib.Core.List.{List, [], _∷_, _++_}
 use mathlib.Core.Option.{none, some}
 use lib.Dec.{ltb}
 use lib.ListN.{length}
-use Rattle.grammar.specs.Text.{all, empty}
-use Rattle.grammar.specs.Bytes.{isByte}
+use Rattle.text.specs.Text.{all, empty, isByte}
 use Rattle.grammar.specs.Pieces.{Slot, Pieces, string}
 use Rattle.grammar.specs.Items.{Item, paramsText}
-use Rattle.grammar.specs.Rules.{Row, row, firstOf}
+use Rattle.text.specs.Rows.{Row, row, firstOf}
 use Rattle.profile.specs.declared.limits.BytesRule.{BytesRule}
 use Rattle.profile.specs.declared.limits.Limits.{Limits}
 use Rattle.profile.specs.Limits.{Profile, limitsOf, inRange, isSize, versionAllowed, profileOf}

@@ -4,7 +4,7 @@ use Prim.Native.Nat.{ℕ, _+_}
 use mathlib.Core.List.{List, [], _∷_, _++_}
 use mathlib.Core.Option.{none, some}
 use lib.ListN.{length}
-use Rattle.grammar.specs.Text.{text}
+use Rattle.text.specs.Text.{text}
 use Rattle.grammar.specs.Pieces.{Slot}
 use Rattle.profile.specs.Fields.{FieldSet, writeNumber, writeBytes, writeVersion}
 use Rattle.profile.specs.declared.fields.Fields.{Fields}

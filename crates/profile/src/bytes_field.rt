@@ -1,16 +1,16 @@
 // One byte string: its rule over the span of its text, and over its bytes. Sizes are in bytes, lengths of texts in characters.
 use crate::limits::BytesRule;
 use crate::limits::is_size;
-use grammar::b64::is_canonical;
-use grammar::parts::part;
-use grammar::pieces::Span;
-use grammar::units::Bytes;
-use grammar::units::Chars;
-use grammar::units::decoded_len;
+use b64::canonical::is_canonical;
+use b64::lengths::decoded_len;
+use grammar::places::Span;
+use grammar::places::part;
+use text::units::Bytes;
+use text::units::Chars;
 ghost use Prim.Native.Nat.{ℕ};
 ghost use mathlib.Core.Path.{_≡_};
 ghost use mathlib.Core.List.{List};
-ghost use Rattle.grammar.specs.Text.{broken};
+ghost use Rattle.text.specs.Text.{broken};
 ghost use Rattle.profile.specs.Fields.{isSized, isBytes, misplacedBytes};
 ghost use Rattle.profile.specs.Writer.{bytesAllowed};
 ghost use Rattle.profile.specs.ReaderSteps.{slotIn};

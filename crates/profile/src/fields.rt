@@ -1,5 +1,5 @@
 // The fields of a string. The four byte strings travel beside the number fields.
-use grammar::units::Bytes;
+use text::units::Bytes;
 
 // A version field: absent, or the number written. Absent is a case of its own.
 pub enum Version {

@@ -1,5 +1,5 @@
 // Ids by their names.
-use grammar::scan::same_text;
+use text::scan::same_text;
 ghost use mathlib.Core.Path.{_≡_};
 ghost use Rattle.profile.specs.Limits.{idOf, editionTwo};
 

@@ -2,7 +2,7 @@
 use crate::fields::Version;
 use crate::ranges::highest_of;
 use crate::ranges::lowest_of;
-use grammar::units::Bytes;
+use text::units::Bytes;
 ghost use mathlib.Core.Path.{_≡_};
 ghost use Rattle.profile.specs.Limits.{inRange, isSize, versionAllowed, profileOf, limitsOf, editionTwo};
 

@@ -1,18 +1,18 @@
 // A tag and a text after it, at the start of a buffer: the tags are `$`, `$v=`, and a comma with a parameter's name and `=`.
-use grammar::b64::encode;
-use grammar::decimal::unsigned_len;
-use grammar::decimal::write_unsigned;
-use grammar::place::write_text;
-use grammar::units::Bytes;
-use grammar::units::encoded_len;
+use b64::encoder::encode;
+use b64::lengths::encoded_len;
+use decimal::writer::unsigned_len;
+use decimal::writer::write_unsigned;
+use text::place::write_text;
+use text::units::Bytes;
 ghost use Prim.Native.Nat.{_+_, _≤_};
 ghost use mathlib.Core.Path.{_≡_};
 ghost use mathlib.Core.List.{_++_};
 ghost use lib.ListN.{length};
-ghost use Rattle.grammar.specs.Decimal.{digits};
+ghost use Rattle.decimal.specs.Decimal.{digits};
 ghost use Rattle.profile.specs.Limits.{room};
 ghost use Rattle.profile.specs.Fields.{writeBytes};
-ghost use Rattle.grammar.specs.PlaceSteps.{Wrote};
+ghost use Rattle.text.specs.Place.{Wrote};
 ghost use Rattle.profile.specs.WriterSteps.{tagged, taggedLength};
 
 // A text alone.

@@ -1,13 +1,13 @@
 // The values of the five names in a parameter piece, found in one walk: where each stands in the piece.
-use grammar::pieces::Span;
-use grammar::scan::next_at;
-use grammar::scan::same_text;
-use grammar::units::Chars;
+use grammar::places::Span;
+use text::scan::next_at;
+use text::scan::same_text;
+use text::units::Chars;
 ghost use mathlib.Core.Path.{_≡_};
 ghost use mathlib.Core.Bool.{true};
 ghost use mathlib.Core.List.{List, []};
 ghost use Prim.Native.Nat.{ℕ};
-ghost use Rattle.grammar.specs.Text.{all};
+ghost use Rattle.text.specs.Text.{all};
 ghost use Rattle.grammar.specs.Items.{items};
 ghost use Rattle.grammar.specs.Rules.{isItem};
 ghost use Rattle.profile.specs.ReaderSteps.{itemsFrom, ValueStep, ValuesAre};

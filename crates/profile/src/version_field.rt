@@ -5,9 +5,9 @@ use crate::tagged::put_decimal;
 ghost use Prim.Native.Nat.{_≤_};
 ghost use mathlib.Core.Path.{_≡_};
 ghost use lib.ListN.{length};
-ghost use Rattle.grammar.specs.Text.{text};
+ghost use Rattle.text.specs.Text.{text};
 ghost use Rattle.profile.specs.Fields.{writeVersion};
-ghost use Rattle.grammar.specs.PlaceSteps.{Wrote};
+ghost use Rattle.text.specs.Place.{Wrote};
 ghost use Rattle.profile.specs.WriterSteps.{tagged, taggedLength};
 
 // The length of the version piece with its `$`; nothing where the version is absent.

@@ -6,7 +6,7 @@ use crate::limits::in_range;
 use crate::limits::limits_of;
 use crate::limits::version_allowed;
 ghost use mathlib.Core.Path.{_≡_};
-ghost use Rattle.grammar.specs.Rules.{firstOf};
+ghost use Rattle.text.specs.Rows.{firstOf};
 ghost use Rattle.profile.specs.Limits.{profileOf, editionTwo};
 ghost use Rattle.profile.specs.Fields.{fieldSet};
 ghost use Rattle.profile.specs.Writer.{rangeRows, bytesRows, refusal};

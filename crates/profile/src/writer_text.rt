@@ -14,7 +14,7 @@ ghost use mathlib.Core.Path.{_≡_};
 ghost use lib.ListN.{length};
 ghost use Rattle.profile.specs.Limits.{profileOf, editionTwo, room};
 ghost use Rattle.profile.specs.Fields.{fieldSet};
-ghost use Rattle.grammar.specs.PlaceSteps.{Wrote};
+ghost use Rattle.text.specs.Place.{Wrote};
 ghost use Rattle.profile.specs.WriterSteps.{costsText, costsLength, itemsText, dollared, headText, piecesText, piecesLength};
 
 // The length of the numbers as items.

@@ -1,6 +1,5 @@
 // Known answers of the profile reader: a string on each line of standard input, and on standard output all that the entries give for it,
 // parted by tabs. The stored output was worked out from document 01 apart from this code.
-use grammar::scan::next_at;
 use libc::STDIN_FILENO;
 use libc::STDOUT_FILENO;
 use profile::fields::ByteString;
@@ -8,6 +7,7 @@ use profile::fields::Version;
 use profile::reader::algorithm_version;
 use profile::reader::byte_string;
 use profile::reader::read;
+use text::scan::next_at;
 
 fn show(text: &[u8]) {
     io::write_all(STDOUT_FILENO, text);

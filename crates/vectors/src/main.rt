@@ -1,12 +1,12 @@
 // Worked examples, run: RFC 4648's test vectors without padding, decimals on either side of their rule, and strings of the grammar.
 // Buffers are filled with dots and lent from a place in their middle, so that the bytes around what is written show.
-use grammar::decimal::Limited;
-use grammar::decimal::read_within;
+use decimal::reader::Limited;
+use decimal::reader::read_within;
 use grammar::parts::item_name;
 use grammar::parts::item_value;
 use grammar::parts::piece;
-use grammar::pieces::Piece;
-use grammar::pieces::Span;
+use grammar::places::Piece;
+use grammar::places::Span;
 use libc::STDOUT_FILENO;
 
 fn show(text: &[u8]) {
@@ -34,7 +34,7 @@ fn outcome(answer: u8, count: usize, buf: &[u8]) {
 
 fn encoded(bytes: &[u8], at: usize) {
     let mut buf = [46u8; 12];
-    let r = grammar::b64::encode(bytes, &mut buf, at);
+    let r = b64::encoder::encode(bytes, &mut buf, at);
     field(b"encode");
     field(bytes);
     number(at as u64);
@@ -43,7 +43,7 @@ fn encoded(bytes: &[u8], at: usize) {
 
 fn decoded(text: &[u8], at: usize) {
     let mut buf = [46u8; 10];
-    let r = grammar::b64::decode(text, &mut buf, at);
+    let r = b64::decoder::decode(text, &mut buf, at);
     field(b"decode");
     field(text);
     number(at as u64);
@@ -52,9 +52,9 @@ fn decoded(text: &[u8], at: usize) {
 
 // The number read is written again.
 fn decimal(text: &[u8], at: usize) {
-    let d = grammar::decimal::read_decimal(text);
+    let d = decimal::reader::read_decimal(text);
     let mut buf = [46u8; 24];
-    let w = grammar::decimal::write_decimal(d.value, &mut buf, at);
+    let w = decimal::writer::write_decimal(d.value, &mut buf, at);
     field(b"decimal");
     field(text);
     number(d.number as u64);

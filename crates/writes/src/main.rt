@@ -1,20 +1,20 @@
 // Known answers of the writer: the fields of a string on each line of standard input, parted by tabs, and on standard output the same with
 // the number and the string that the writer gives for them. The stored output was worked out from document 01 apart from this code.
 // Columns: id, version (`absent`, a decimal, or `short` for the short writer), m, t, p, then keyid, data, salt and output in hex.
-use grammar::decimal::Limited;
-use grammar::decimal::read_within;
-use grammar::parts::part;
-use grammar::pieces::Span;
-use grammar::place::Written;
-use grammar::scan::next_at;
-use grammar::scan::same_text;
-use grammar::units::Chars;
+use decimal::reader::Limited;
+use decimal::reader::read_within;
+use grammar::places::Span;
+use grammar::places::part;
 use libc::STDIN_FILENO;
 use libc::STDOUT_FILENO;
 use profile::fields::Fields;
 use profile::fields::Version;
 use profile::writer::write;
 use profile::writer::write_short;
+use text::place::Written;
+use text::scan::next_at;
+use text::scan::same_text;
+use text::units::Chars;
 ghost use Prim.Native.Nat.{_≤_};
 
 // The string is written in the middle of a buffer, so that a writer that begins at its start shows.

@@ -2,7 +2,7 @@
 use borrow.Author.Needs.{needs}
 use mathlib.Core.Path.{sym, _∙_}
 use native.Mathlib.Omega.{arith}
-use Rattle.grammar.proofs.NumeralLaws.{digits-limited}
+use Rattle.decimal.proofs.NumeralLaws.{digits-limited}
 use Rattle.writes.proofs.decimal.Statement.{statement}
 use Rattle.writes.proofs.decimal.Tie as tie
 

@@ -1,11 +1,11 @@
 -- `accounts::line::judge` meets its contract. Assumes nothing.
 use Prim.Native.Nat.{_<_}
-use mathlib.Core.Path.{_≡_, sym, ap, _∙_}
+use mathlib.Core.Path.{_≡_, sym, _∙_}
 use native.Mathlib.Omega.{arith}
 use borrow.Author.Needs.{needs}
 use denote.Ref.{now}
 use lib.ListN.{length}
-use Rattle.grammar.specs.Text.{find}
+use Rattle.text.specs.Text.{find}
 use Rattle.accounts.proofs.LineLaws.{answer-row, answer-string, tab-there}
 use Rattle.accounts.proofs.line.judge.Statement.{statement}
 use Rattle.accounts.proofs.line.judge.Tie as tie

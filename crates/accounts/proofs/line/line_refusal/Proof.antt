@@ -1,11 +1,8 @@
 -- `accounts::line::line_refusal` meets its contract, row by row. Assumes nothing.
-use mathlib.Core.Bool.{false, true}
-use mathlib.Core.Path.{_≡_, sym, ap, _∙_}
+use mathlib.Core.Path.{sym, _∙_}
 use native.Mathlib.Omega.{arith}
 use borrow.Author.Needs.{needs}
-use borrow.Author.Tests.{lt-ltb, le-ltb}
 use denote.Ref.{now}
-use Rattle.grammar.specs.Rules.{isName}
 use Rattle.accounts.proofs.LineLaws.{line-long, line-untabbed, line-named, line-unnamed}
 use Rattle.accounts.proofs.line.line_refusal.Statement.{statement}
 use Rattle.accounts.proofs.line.line_refusal.Tie as tie

@@ -1,9 +1,8 @@
 -- `accounts::listing::end_in` meets its contract. Assumes nothing.
-use native.Mathlib.Omega.{arith}
 use mathlib.Core.Path.{sym, ap, _∙_}
 use borrow.Author.Needs.{needs}
 use denote.Ref.{now}
-use Rattle.grammar.specs.Place.{put}
+use Rattle.text.specs.Place.{put}
 use Rattle.accounts.specs.Feeding.{endPut}
 use Rattle.accounts.proofs.FeedLaws.{end-nothing, end-row}
 use Rattle.accounts.proofs.listing.end_in.Statement.{statement}

@@ -1,6 +1,5 @@
 -- `accounts::listing::next_in` meets its contract: a line that ends in the part, or a part that is used up. Assumes nothing.
 use borrow.Author.Needs.{needs}
-use mathlib.Core.Path.{_∙_}
 use denote.Ref.{now}
 use Rattle.accounts.proofs.FeedLaws.{next-row, next-used, next-past}
 use Rattle.accounts.proofs.listing.next_in.Statement.{statement}

@@ -3,7 +3,7 @@ use mathlib.Core.Path.{sym}
 use borrow.Author.Needs.{needs}
 use denote.Ref.{now}
 use lib.ListN.{drop-of-length-le}
-use Rattle.grammar.proofs.Writing.{tail-part}
+use Rattle.text.proofs.Writing.{tail-part}
 use Rattle.accounts.proofs.listing.tail.Statement.{statement}
 use Rattle.accounts.proofs.listing.tail.Tie as tie
 

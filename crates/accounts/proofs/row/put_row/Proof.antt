@@ -5,9 +5,9 @@ use native.Mathlib.Omega.{arith}
 use borrow.Author.Needs.{needs}
 use denote.Ref.{now}
 use lib.ListN.{length}
-use Rattle.grammar.specs.Decimal.{digits}
-use Rattle.grammar.specs.PlaceSteps.{Wrote}
-use Rattle.grammar.proofs.Wrote.{wrote-start, wrote-more, room-first, wrote-length}
+use Rattle.decimal.specs.Decimal.{digits}
+use Rattle.text.specs.Place.{Wrote}
+use Rattle.text.proofs.Wrote.{wrote-start, wrote-more, room-first, wrote-length}
 use Rattle.accounts.specs.Listing.{kindLine, rowText}
 use Rattle.accounts.proofs.row.put_row.Statement.{statement}
 use Rattle.accounts.proofs.row.put_row.Tie as tie

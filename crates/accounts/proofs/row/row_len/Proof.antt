@@ -4,8 +4,8 @@ use mathlib.Core.Path.{_≡_}
 use native.Mathlib.Omega.{arith}
 use borrow.Author.Needs.{needs}
 use lib.ListN.{length}
-use Rattle.grammar.specs.Decimal.{digits}
-use Rattle.grammar.proofs.DecimalLaws.{length-digits}
+use Rattle.decimal.specs.Decimal.{digits}
+use Rattle.decimal.proofs.DecimalLaws.{length-digits}
 use Rattle.accounts.proofs.RowLaws.{row-length, kind-length}
 use Rattle.accounts.proofs.row.row_len.Statement.{statement}
 use Rattle.accounts.proofs.row.row_len.Tie as tie

@@ -2,7 +2,7 @@
 use mathlib.Core.Path.{sym, ap, _∙_}
 use borrow.Author.Needs.{needs}
 use denote.Ref.{now}
-use Rattle.grammar.specs.Place.{put}
+use Rattle.text.specs.Place.{put}
 use Rattle.accounts.proofs.RowLaws.{kind-1, kind-2, kind-3, kind-other}
 use Rattle.accounts.proofs.row.write_kind.Statement.{statement}
 use Rattle.accounts.proofs.row.write_kind.Tie as tie

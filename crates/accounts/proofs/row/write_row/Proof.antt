@@ -6,9 +6,9 @@ use borrow.Author.Needs.{needs}
 use borrow.Author.Tests.{leb-true, leb-false, not-true, not-false}
 use denote.Ref.{now}
 use lib.ListN.{length, length-drop}
-use Rattle.grammar.specs.Place.{hasRoom}
-use Rattle.grammar.proofs.Writing.{tail-part, tail-over, put-done, put-full}
-use Rattle.grammar.proofs.Over.{over-start}
+use Rattle.text.specs.Place.{hasRoom}
+use Rattle.text.proofs.Writing.{tail-part, tail-over, put-done, put-full}
+use Rattle.text.proofs.Over.{over-start}
 use Rattle.accounts.specs.Listing.{rowText}
 use Rattle.accounts.proofs.row.write_row.Statement.{statement}
 use Rattle.accounts.proofs.row.write_row.Tie as tie

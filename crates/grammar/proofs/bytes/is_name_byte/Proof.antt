@@ -5,7 +5,7 @@ use mathlib.Core.Path.{sym}
 use mathlib.Core.Bool.{true, false}
 use mathlib.Core.List.{[], _∷_}
 use Rattle.grammar.specs.Bytes.{isNameByte}
-use Rattle.grammar.proofs.ClassLaws.{on, keyed}
+use Rattle.text.proofs.ClassLaws.{on, keyed}
 use Rattle.grammar.proofs.bytes.is_name_byte.Statement.{statement}
 use Rattle.grammar.proofs.bytes.is_name_byte.Tie as tie
 

@@ -15,20 +15,11 @@ enum-told-2 c = search needs
 is-value-byte-requires : tie.Need-is-value-byte-requires
 is-value-byte-requires c κs = search needs
 
-enum-told-3 : tie.Need-enum-told-3
-enum-told-3 c = search needs
-
-is-digit-requires : tie.Need-is-digit-requires
-is-digit-requires c κs = search needs
-
 returns : tie.Need-returns
 returns c = rw (c .before .enum-told .given .1) (c .is-name-byte .ensures)
 
 returns-2 : tie.Need-returns-2
 returns-2 c = rw (c .before .enum-told2 .given .1) (c .is-value-byte .ensures)
-
-returns-3 : tie.Need-returns-3
-returns-3 c = rw (c .before .enum-told3 .given .1) (c .is-digit .ensures)
 
 pub in-class-spec : {M : Type 1} → statement M
 in-class-spec =
@@ -38,8 +29,5 @@ in-class-spec =
     is-name-byte-requires
     enum-told-2
     is-value-byte-requires
-    enum-told-3
-    is-digit-requires
     returns
-    returns-2
-    returns-3)
+    returns-2)

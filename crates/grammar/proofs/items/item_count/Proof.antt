@@ -5,10 +5,10 @@ use mathlib.Core.List.{List, map}
 use native.Mathlib.Omega.{arith}
 use denote.Ref.{now}
 use lib.ListN.{length}
-use Rattle.grammar.specs.Text.{cut}
+use Rattle.text.specs.Text.{cut}
 use Rattle.grammar.specs.Items.{Item, items}
-use Rattle.grammar.proofs.Scanning.{find-from-le}
-use Rattle.grammar.proofs.Splitting.{from-past}
+use Rattle.text.proofs.Scanning.{find-from-le}
+use Rattle.text.proofs.Splitting.{from-past}
 use Rattle.grammar.proofs.ItemLaws.{itemsFrom, items-start, items-to}
 use Rattle.grammar.proofs.items.item_count.Statement.{statement}
 use Rattle.grammar.proofs.items.item_count.Tie as tie

@@ -4,9 +4,9 @@ use mathlib.Core.Path.{_≡_}
 use native.Mathlib.Omega.{arith}
 use borrow.Author.Needs.{needs}
 use denote.Ref.{now}
-use Rattle.grammar.specs.Text.{find}
-use Rattle.grammar.proofs.Scanning.{find-le}
-use Rattle.grammar.proofs.Splitting.{cut-before}
+use Rattle.text.specs.Text.{find}
+use Rattle.text.proofs.Scanning.{find-le}
+use Rattle.text.proofs.Splitting.{cut-before}
 use Rattle.grammar.proofs.items.name_part.Statement.{statement}
 use Rattle.grammar.proofs.items.name_part.Tie as tie
 

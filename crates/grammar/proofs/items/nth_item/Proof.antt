@@ -6,9 +6,9 @@ use native.Mathlib.Omega.{arith}
 use borrow.Author.Needs.{needs}
 use denote.Ref.{now}
 use lib.ListN.{length, take, drop, getD}
-use Rattle.grammar.specs.Text.{parts, partsFrom}
-use Rattle.grammar.proofs.Scanning.{find-from-le}
-use Rattle.grammar.proofs.Splitting.{from-to, from-past, from-zero, getD-pred}
+use Rattle.text.specs.Text.{parts, partsFrom}
+use Rattle.text.proofs.Scanning.{find-from-le}
+use Rattle.text.proofs.Splitting.{from-to, from-past, from-zero, getD-pred}
 use Rattle.grammar.proofs.items.nth_item.Statement.{statement}
 use Rattle.grammar.proofs.items.nth_item.Tie as tie
 

@@ -6,9 +6,9 @@ use native.Mathlib.Nat.{zero-add}
 use borrow.Author.Needs.{needs}
 use denote.Ref.{now}
 use lib.ListN.{drop, drop-of-length-le}
-use Rattle.grammar.specs.Text.{find}
-use Rattle.grammar.proofs.Splitting.{cut-after}
-use Rattle.grammar.proofs.Writing.{tail-part}
+use Rattle.text.specs.Text.{find}
+use Rattle.text.proofs.Splitting.{cut-after}
+use Rattle.text.proofs.Writing.{tail-part}
 use Rattle.grammar.proofs.items.value_part.Statement.{statement}
 use Rattle.grammar.proofs.items.value_part.Tie as tie
 

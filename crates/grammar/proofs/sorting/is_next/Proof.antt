@@ -3,7 +3,7 @@ use mathlib.Core.Path.{sym}
 use native.Mathlib.Nat.{zero-add}
 use borrow.Author.Needs.{needs}
 use denote.Ref.{now}
-use Rattle.grammar.proofs.Splitting.{has-find}
+use Rattle.text.proofs.Splitting.{has-find}
 use Rattle.grammar.proofs.sorting.is_next.Statement.{statement}
 use Rattle.grammar.proofs.sorting.is_next.Tie as tie
 

@@ -2,7 +2,7 @@
 use borrow.Author.Needs.{needs}
 use denote.Ref.{now}
 use Rattle.grammar.specs.Parts.{partAt}
-use Rattle.grammar.proofs.B64Laws.{length-decode}
+use Rattle.b64.proofs.B64Laws.{length-decode}
 use Rattle.profile.proofs.SlotLaws.{slot-none, slot-some}
 use Rattle.profile.proofs.bytes_field.bad_size.Statement.{statement}
 use Rattle.profile.proofs.bytes_field.bad_size.Tie as tie

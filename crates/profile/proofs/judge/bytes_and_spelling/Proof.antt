@@ -1,13 +1,13 @@
 -- `profile::judge::bytes_and_spelling` meets its contract. Assumes nothing.
 use Prim.Native.Nat.{ℕ}
 use borrow.Author.Needs.{needs}
-use mathlib.Core.Bool.{Bool, _||_}
+use mathlib.Core.Bool.{Bool}
 use mathlib.Core.List.{List, [], _∷_}
-use mathlib.Core.Path.{_≡_, refl, sym, _∙_}
+use mathlib.Core.Path.{_≡_, sym, _∙_}
 use denote.Ref.{now}
-use Rattle.grammar.specs.Text.{broken}
+use Rattle.text.specs.Text.{broken}
 use Rattle.grammar.specs.Pieces.{Slot}
-use Rattle.grammar.specs.Rules.{row, firstOf}
+use Rattle.text.specs.Rows.{row, firstOf}
 use Rattle.profile.specs.declared.limits.Limits.{Limits}
 use Rattle.profile.specs.Fields.{isBytes, writtenOut}
 use Rattle.profile.specs.Reader.{slotAt, spellingRows}

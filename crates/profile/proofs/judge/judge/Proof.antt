@@ -7,9 +7,9 @@ use mathlib.Core.Path.{_≡_, refl, sym, _∙_, ap, subst}
 use native.Mathlib.Omega.{arith}
 use lib.ListN.{drop}
 use denote.Ref.{now}
-use Rattle.grammar.specs.Text.{broken}
+use Rattle.text.specs.Text.{broken}
 use Rattle.grammar.specs.Pieces.{Slot}
-use Rattle.grammar.specs.Rules.{Row, firstOf}
+use Rattle.text.specs.Rows.{Row, firstOf}
 use Rattle.profile.specs.Limits.{limitsOf, profileOf, editionTwo}
 use Rattle.profile.specs.Fields.{isSized, isBytes}
 use Rattle.profile.specs.Reader.{misplaced, numberRows, spellingRows, rowsFor}

@@ -9,7 +9,7 @@ use borrow.Author.Tests.{lt-ltb, le-ltb}
 use denote.Ref.{now}
 use lib.Dec.{ltb}
 use Rattle.grammar.specs.Pieces.{Slot}
-use Rattle.grammar.specs.Rules.{Row, row, firstOf}
+use Rattle.text.specs.Rows.{Row, row, firstOf}
 use Rattle.profile.specs.Fields.{misplacedNumber, readNumber}
 use Rattle.profile.specs.Reader.{slotAt, numberRow, numberRows}
 use Rattle.profile.specs.ReaderSteps.{slotsIn, Judged}

@@ -2,12 +2,11 @@
 use Prim.Native.Nat.{ℕ, suc, _≤_}
 use mathlib.Core.List.{List, _∷_}
 use mathlib.Core.Path.{_≡_, sym, subst}
-use native.Mathlib.Omega.{arith}
 use borrow.Author.Needs.{needs}
 use denote.Ref.{now}
 use lib.ListN.{length}
 use Rattle.profile.specs.Limits.{profileOf, editionTwo}
-use Rattle.grammar.specs.PlaceSteps.{Wrote}
+use Rattle.text.specs.Place.{Wrote}
 use Rattle.profile.proofs.LimitLaws.{no-name}
 use Rattle.profile.proofs.name_field.put_name.Statement.{statement}
 use Rattle.profile.proofs.name_field.put_name.Tie as tie

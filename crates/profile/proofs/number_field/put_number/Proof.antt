@@ -1,11 +1,11 @@
 -- `profile::number_field::put_number` meets its contract. Assumes nothing.
-use mathlib.Core.Option.{none, some}
+use mathlib.Core.Option.{some}
 use mathlib.Core.Path.{_≡_}
 use borrow.Author.Needs.{needs}
 use denote.Ref.{now}
-use Rattle.grammar.specs.Decimal.{digits}
+use Rattle.decimal.specs.Decimal.{digits}
 use Rattle.profile.specs.Fields.{writeNumber}
-use Rattle.grammar.proofs.Wrote.{wrote-nothing}
+use Rattle.text.proofs.Wrote.{wrote-nothing}
 use Rattle.profile.proofs.number_field.put_number.Statement.{statement}
 use Rattle.profile.proofs.number_field.put_number.Tie as tie
 

@@ -3,7 +3,7 @@ use borrow.Author.Needs.{needs}
 use mathlib.Core.Path.{_≡_, refl, sym, _∙_}
 use native.Mathlib.Omega.{arith}
 use denote.Ref.{now}
-use Rattle.grammar.proofs.NumeralLaws.{digits-limited}
+use Rattle.decimal.proofs.NumeralLaws.{digits-limited}
 use Rattle.profile.specs.Fields.{numberReading}
 use Rattle.profile.proofs.number_field.written.Statement.{statement}
 use Rattle.profile.proofs.number_field.written.Tie as tie

@@ -5,8 +5,8 @@ use native.Mathlib.Omega.{arith}
 use borrow.Author.Needs.{needs}
 use denote.Ref.{now}
 use lib.ListN.{length}
-use Rattle.grammar.specs.B64.{encode}
-use Rattle.grammar.proofs.B64Laws.{length-encode}
+use Rattle.b64.specs.B64.{encode}
+use Rattle.b64.proofs.B64Laws.{length-encode}
 use Rattle.profile.specs.Limits.{room}
 use Rattle.profile.specs.Fields.{writeBytes}
 use Rattle.profile.specs.WriterSteps.{taggedLength}

@@ -1,7 +1,7 @@
 -- `profile::tagged::decimal_len` meets its contract. Assumes nothing.
 use native.Mathlib.Omega.{arith}
 use borrow.Author.Needs.{needs}
-use Rattle.grammar.proofs.DecimalLaws.{length-digits}
+use Rattle.decimal.proofs.DecimalLaws.{length-digits}
 use Rattle.profile.proofs.tagged.decimal_len.Statement.{statement}
 use Rattle.profile.proofs.tagged.decimal_len.Tie as tie
 

@@ -6,12 +6,11 @@ use native.Mathlib.Omega.{arith}
 use borrow.Author.Needs.{needs}
 use denote.Ref.{now}
 use lib.ListN.{length, length-append}
-use Rattle.grammar.specs.Place.{outcome, put}
-use Rattle.grammar.specs.B64.{encode}
+use Rattle.text.specs.Place.{outcome, put, Wrote}
+use Rattle.b64.specs.B64.{encode}
 use Rattle.profile.specs.Fields.{writeBytes}
-use Rattle.grammar.specs.PlaceSteps.{Wrote}
 use Rattle.profile.specs.WriterSteps.{tagged}
-use Rattle.grammar.proofs.Wrote.{wrote-nothing, wrote-more}
+use Rattle.text.proofs.Wrote.{wrote-nothing, wrote-more}
 use Rattle.profile.proofs.WriterLaws.{no-bytes, some-bytes}
 use Rattle.profile.proofs.tagged.put_bytes.Statement.{statement}
 use Rattle.profile.proofs.tagged.put_bytes.Tie as tie

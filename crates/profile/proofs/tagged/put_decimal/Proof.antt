@@ -6,10 +6,9 @@ use native.Mathlib.Omega.{arith}
 use borrow.Author.Needs.{needs}
 use denote.Ref.{now}
 use lib.ListN.{length-append}
-use Rattle.grammar.specs.Place.{outcome, put}
-use Rattle.grammar.specs.Decimal.{digits}
-use Rattle.grammar.specs.PlaceSteps.{Wrote}
-use Rattle.grammar.proofs.Wrote.{wrote-more}
+use Rattle.text.specs.Place.{outcome, put, Wrote}
+use Rattle.decimal.specs.Decimal.{digits}
+use Rattle.text.proofs.Wrote.{wrote-more}
 use Rattle.profile.proofs.tagged.put_decimal.Statement.{statement}
 use Rattle.profile.proofs.tagged.put_decimal.Tie as tie
 

@@ -1,7 +1,7 @@
 -- `profile::tagged::put_text` meets its contract. Assumes nothing.
 use borrow.Author.Needs.{needs}
 use denote.Ref.{now}
-use Rattle.grammar.proofs.Wrote.{wrote-start}
+use Rattle.text.proofs.Wrote.{wrote-start}
 use Rattle.profile.proofs.tagged.put_text.Statement.{statement}
 use Rattle.profile.proofs.tagged.put_text.Tie as tie
 

@@ -5,7 +5,7 @@ use borrow.Author.Needs.{needs}
 use denote.Ref.{now}
 use Prim.Native.Nat.{_+_, _≤_, _<_}
 use lib.ListN.{length}
-use Rattle.grammar.proofs.Scanning.{find-from-le}
+use Rattle.text.proofs.Scanning.{find-from-le}
 use Rattle.profile.proofs.ValueLaws.{ahead, step-past, step-to, step-not}
 use Rattle.profile.proofs.values.take_value.Statement.{statement}
 use Rattle.profile.proofs.values.take_value.Tie as tie

@@ -2,7 +2,7 @@
 use mathlib.Core.Path.{_∙_, sym, ap}
 use borrow.Author.Needs.{needs}
 use denote.Ref.{now}
-use Rattle.grammar.specs.Text.{all}
+use Rattle.text.specs.Text.{all}
 use Rattle.grammar.specs.Rules.{isItem}
 use Rattle.grammar.proofs.ItemLaws.{items-start}
 use Rattle.profile.proofs.ValueLaws.{on, values-are}

@@ -1,7 +1,7 @@
 -- `profile::version_field::put_version` meets its contract. Assumes nothing.
 use borrow.Author.Needs.{needs}
 use denote.Ref.{now}
-use Rattle.grammar.proofs.Wrote.{wrote-nothing}
+use Rattle.text.proofs.Wrote.{wrote-nothing}
 use Rattle.profile.proofs.version_field.put_version.Statement.{statement}
 use Rattle.profile.proofs.version_field.put_version.Tie as tie
 

@@ -7,8 +7,8 @@ use borrow.Author.Needs.{needs}
 use borrow.Author.Tests.{not-true, not-false}
 use denote.Ref.{now}
 use lib.ListN.{length, length-drop}
-use Rattle.grammar.specs.Place.{hasRoom}
-use Rattle.grammar.proofs.Writing.{put-refused, tail-part}
+use Rattle.text.specs.Place.{hasRoom}
+use Rattle.text.proofs.Writing.{put-refused, tail-part}
 use Rattle.profile.specs.Limits.{profileOf, editionTwo}
 use Rattle.profile.specs.Fields.{FieldSet, fieldSet}
 use Rattle.profile.specs.Writer.{refusal, formatted}

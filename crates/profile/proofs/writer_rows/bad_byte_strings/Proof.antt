@@ -4,7 +4,7 @@ use mathlib.Core.Path.{_≡_, sym, _∙_}
 use borrow.Author.Needs.{needs}
 use denote.Ref.{now}
 use lib.ListN.{drop}
-use Rattle.grammar.specs.Rules.{firstOf}
+use Rattle.text.specs.Rows.{firstOf}
 use Rattle.profile.specs.Writer.{bytesRows}
 use Rattle.profile.proofs.WriterLaws.{not-empty, unsalted, no-output}
 use Rattle.profile.proofs.writer_rows.bad_byte_strings.Statement.{statement}

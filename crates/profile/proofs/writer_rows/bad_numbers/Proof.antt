@@ -5,7 +5,7 @@ use native.Mathlib.Omega.{arith}
 use borrow.Author.Needs.{needs}
 use borrow.Author.Tests.{lt-ltb, le-ltb}
 use lib.ListN.{drop}
-use Rattle.grammar.specs.Rules.{firstOf}
+use Rattle.text.specs.Rows.{firstOf}
 use Rattle.profile.specs.Writer.{rangeRows}
 use Rattle.profile.proofs.writer_rows.bad_numbers.Statement.{statement}
 use Rattle.profile.proofs.writer_rows.bad_numbers.Tie as tie

@@ -1,12 +1,12 @@
 -- `profile::writer_rows::refusal_of` meets its contract. Assumes nothing.
 use Prim.Native.Nat.{ℕ}
-use mathlib.Core.List.{List, _++_}
+use mathlib.Core.List.{List}
 use mathlib.Core.Path.{_≡_, refl, sym, ap, _∙_}
 use borrow.Author.Needs.{needs}
 use denote.Ref.{now}
 use lib.ListN.{drop}
-use Rattle.grammar.specs.Rules.{Row, firstOf}
-use Rattle.grammar.proofs.Rows.{clear}
+use Rattle.text.specs.Rows.{Row, firstOf}
+use Rattle.text.proofs.Rows.{clear}
 use Rattle.profile.specs.Limits.{limitsOf, profileOf, editionTwo}
 use Rattle.profile.specs.Fields.{FieldSet, fieldSet}
 use Rattle.profile.specs.Writer.{rangeRows, bytesRows, writerRows, refusal}

@@ -6,11 +6,11 @@ use borrow.Author.Needs.{needs}
 use borrow.Rule.Slice.PartMut.{putMid}
 use denote.Ref.{now}
 use lib.ListN.{length}
-use Rattle.grammar.specs.Text.{text}
+use Rattle.text.specs.Text.{text}
 use Rattle.profile.specs.Fields.{writeNumber}
-use Rattle.grammar.specs.PlaceSteps.{Wrote}
+use Rattle.text.specs.Place.{Wrote}
 use Rattle.profile.specs.WriterSteps.{tagged}
-use Rattle.grammar.proofs.Wrote.{wrote-then, RoomFor, room-then, room-first}
+use Rattle.text.proofs.Wrote.{wrote-then, RoomFor, room-then, room-first}
 use Rattle.profile.proofs.writer_text.put_costs.Statement.{statement}
 use Rattle.profile.proofs.writer_text.put_costs.Tie as tie
 

@@ -6,12 +6,12 @@ use borrow.Author.Needs.{needs}
 use borrow.Rule.Slice.PartMut.{putMid}
 use denote.Ref.{now}
 use lib.ListN.{length}
-use Rattle.grammar.specs.Text.{text}
+use Rattle.text.specs.Text.{text}
 use Rattle.profile.specs.Limits.{profileOf, editionTwo}
 use Rattle.profile.specs.Fields.{writeBytes}
-use Rattle.grammar.specs.PlaceSteps.{Wrote}
+use Rattle.text.specs.Place.{Wrote}
 use Rattle.profile.specs.WriterSteps.{tagged, headText}
-use Rattle.grammar.proofs.Wrote.{wrote-then, RoomFor, room-then, room-first}
+use Rattle.text.proofs.Wrote.{wrote-then, RoomFor, room-then, room-first}
 use Rattle.profile.proofs.writer_text.put_string.Statement.{statement}
 use Rattle.profile.proofs.writer_text.put_string.Tie as tie
 

@@ -1,0 +1,5 @@
+pub mod TableRules
+pub mod B64Laws
+pub mod B64Code
+pub mod B64Examples
+pub mod Claims

@@ -1,0 +1,37 @@
+-- `b64::decoder::store_next` meets its contract.
+-- Assumes nothing.
+use borrow.Author.Needs.{needs}
+use Rattle.b64.proofs.B64Code.{stored-none, stored-room, stored-one}
+use Rattle.b64.proofs.decoder.store_next.Statement.{statement}
+use Rattle.b64.proofs.decoder.store_next.Tie as tie
+
+returns : tie.Need-returns
+returns c =
+    let a = c .before .before .args in
+    stored-none (a .place) (a .prior) (a .own) (a .out .now) (a .o) (c .if1 .taken)
+
+completed-requires : tie.Need-completed-requires
+completed-requires c κs = search needs
+
+slice-write-out : tie.Need-slice-write-out
+slice-write-out c =
+    let p = c .before .before .before in
+    let a = p .args in
+    stored-room (a .place) (a .prior) (a .own) (a .out .now) (a .o) (c .before .if1 .left) (p .pre .1)
+
+add-result : tie.Need-add-result
+add-result c = search needs
+
+same-length : tie.Need-same-length
+same-length c = search needs
+
+returns-2 : tie.Need-returns-2
+returns-2 c =
+    let p = c .before .before .before in
+    let a = p .args in
+    stored-one (a .place) (a .prior) (a .own) (a .out .now) (a .o) (c .before .if1 .left) (slice-write-out c) _ (c .completed .ensures)
+
+pub store-next-spec : {M : Type 1} → statement M
+store-next-spec =
+    tie.close
+    (tie.spec returns completed-requires slice-write-out add-result same-length returns-2)

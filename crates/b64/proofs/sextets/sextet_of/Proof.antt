@@ -1,0 +1,14 @@
+-- `b64::sextets::sextet_of` meets its contract: the table that is lent holds the sextets.
+-- Assumes nothing.
+use borrow.Author.Needs.{needs}
+use Rattle.b64.proofs.sextets.sextet_of.Statement.{statement}
+use Rattle.b64.proofs.sextets.sextet_of.Tie as tie
+
+element-copy-out-result : tie.Need-element-copy-out-result
+element-copy-out-result c = search needs
+
+returns : tie.Need-returns
+returns c = c .before .pre (c .before .args .c) (search needs)
+
+pub sextet-of-spec : {M : Type 1} → statement M
+sextet-of-spec = tie.close (tie.spec element-copy-out-result returns)

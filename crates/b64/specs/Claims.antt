@@ -1,0 +1,23 @@
+-- What is proved of the definitions, over every text: proofs/Claims.antt has a value of each record.
+-- Assumes nothing.
+use Prim.Native.Nat.{ℕ, _<_}
+use mathlib.Core.Path.{_≡_}
+use mathlib.Core.Bool.{true}
+use mathlib.Core.List.{List}
+use lib.ListN.{length}
+use Rattle.text.specs.Text.{all, isByte}
+use Rattle.b64.specs.Lengths.{bytesOf, charsOf}
+use Rattle.b64.specs.B64.{sextet, letter, inAlphabet, canonical, decode, encode}
+
+pub record B64Claims : Type 0 where
+  -- the two ways of the alphabet undo each other
+  pub letter-sextet : (c : ℕ) → inAlphabet c ≡ true → letter (sextet c) ≡ c
+  pub sextet-letter : (v : ℕ) → v < 64 → sextet (letter v) ≡ v
+  -- canonical texts and bytes stand for each other, one to one
+  pub encode-decode : (t : List ℕ) → canonical t ≡ true → encode (decode t) ≡ t
+  pub bytes-decode : (t : List ℕ) → canonical t ≡ true → all isByte (decode t) ≡ true
+  pub decode-encode : (b : List ℕ) → all isByte b ≡ true → decode (encode b) ≡ b
+  pub canonical-encode : (b : List ℕ) → all isByte b ≡ true → canonical (encode b) ≡ true
+  -- lengths, in the two units
+  pub length-decode : (t : List ℕ) → length (decode t) ≡ bytesOf (length t)
+  pub length-encode : (b : List ℕ) → length (encode b) ≡ charsOf (length b)

@@ -1,0 +1,4 @@
+pub mod Lengths
+pub mod B64
+pub mod B64Steps
+pub mod Claims

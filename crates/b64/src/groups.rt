@@ -1,0 +1,24 @@
+// A group of four characters, as one number.
+ghost use mathlib.Core.Path.{_≡_};
+ghost use Rattle.b64.specs.B64.{groupOf};
+
+fn wide(x: u8) -> u32
+    ensures { λ r. ⌜ r ≡ x ⌝ }
+{
+    x as u32
+}
+
+// The 24 bits of a group of four sextets, as one number; 2^24 where one of them is 255. One comparison tests all four: they sum to at most
+// 4 * 63.
+pub fn group(a: u8, b: u8, c: u8, d: u8) -> u32
+    ensures { λ r. ⌜ r ≡ groupOf a b c d ⌝ }
+{
+    let x = wide(a);
+    let y = wide(b);
+    let z = wide(c);
+    let w = wide(d);
+    if 252 < x + y + z + w {
+        return 16777216;
+    }
+    (x * 64 + y) * 4096 + (z * 64 + w)
+}

@@ -1,0 +1,9 @@
+// B64: RFC 4648 section 4 without padding or whitespace.
+pub mod alphabet;
+pub mod canonical;
+pub mod decoder;
+pub mod encoder;
+pub mod groups;
+pub mod lengths;
+mod letters;
+mod sextets;

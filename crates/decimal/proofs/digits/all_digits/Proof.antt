@@ -1,0 +1,67 @@
+-- `decimal::digits::all_digits` meets its contract. Assumes nothing.
+use Prim.Native.Nat.{_-_}
+use mathlib.Core.Path.{_≡_, sym, _∙_}
+use borrow.Author.Needs.{needs}
+use borrow.Author.Tests.{not-true, not-false}
+use denote.Ref.{now}
+use lib.ListN.{length, drop}
+use Rattle.text.specs.Text.{all}
+use Rattle.decimal.specs.Decimal.{isDigit}
+use Rattle.text.proofs.Scanning.{all-past, all-false, all-step}
+use Rattle.decimal.proofs.digits.all_digits.Statement.{statement}
+use Rattle.decimal.proofs.digits.all_digits.Tie as tie
+
+abbrev Inv-loop : tie.InvT-loop
+Inv-loop text i₀ i = all isDigit text ≡ all isDigit (drop i text)
+
+abbrev μ-loop : tie.MeasureT-loop
+μ-loop text i₀ i = length text - i
+
+loop-holds : tie.Need-loop-holds Inv-loop μ-loop
+loop-holds c = search needs
+
+shared-slice-read-c : tie.Need-shared-slice-read-c Inv-loop μ-loop
+shared-slice-read-c c = search needs
+
+is-digit-requires : tie.Need-is-digit-requires Inv-loop μ-loop
+is-digit-requires c κs = tt
+
+returns : tie.Need-returns Inv-loop μ-loop
+returns c =
+    let a = c .before .before .before .before .before .before .args in
+    sym (c .before .before .before .before .loop .inv
+    ∙ all-false isDigit (now (a .text)) (c .before .before .before .before .loop .i) (c .before .before .before .loop-test .taken)
+    (sym (c .before .is-digit .ensures) ∙ not-true (c .before .is-digit .result) (c .if1 .taken)))
+
+add-i : tie.Need-add-i Inv-loop μ-loop
+add-i c = search needs
+
+loop-less : tie.Need-loop-less Inv-loop μ-loop
+loop-less c = search needs
+
+loop-again : tie.Need-loop-again Inv-loop μ-loop
+loop-again c =
+    let a = c .before .before .before .before .before .before .args in
+    c .before .before .before .before .loop .inv
+    ∙ all-step isDigit (now (a .text)) (c .before .before .before .before .loop .i) (c .before .before .before .loop-test .taken)
+    (sym (c .before .is-digit .ensures) ∙ not-false (c .before .is-digit .result) (c .if1 .left))
+
+returns-2 : tie.Need-returns-2 Inv-loop μ-loop
+returns-2 c =
+    let a = c .before .before .before .args in
+    sym (c .before .loop .inv ∙ all-past isDigit (now (a .text)) (c .before .loop .i) (c .loop-test .left))
+
+pub all-digits-spec : {M : Type 1} → statement M
+all-digits-spec =
+    tie.close
+    (tie.spec
+    Inv-loop
+    μ-loop
+    loop-holds
+    shared-slice-read-c
+    is-digit-requires
+    returns
+    add-i
+    loop-less
+    loop-again
+    returns-2)

@@ -1,0 +1,4 @@
+pub mod Decimal
+pub mod Numerals
+pub mod DecimalSteps
+pub mod Claims

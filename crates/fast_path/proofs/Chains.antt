@@ -1,0 +1,160 @@
+-- The steps of the walk, one after the other: what each leaf finds makes up what the whole finds.
+-- Assumes nothing.
+use Prim.Native.Nat.{ℕ, suc, _+_, _-_, _*_, _/_, _≤_, _<_}
+use mathlib.Core.Path.{_≡_, refl, ap, _∙_}
+use mathlib.Core.Bool.{Bool, true, false, cond}
+use mathlib.Core.List.{List, [], _∷_}
+use mathlib.Core.Option.{Option, none, some}
+use native.Mathlib.Omega.{arith}
+use lib.Dec.{eqb}
+use lib.ListN.{length, take, drop, getD, length-drop}
+use lib.Seq.{drop-drop}
+use borrow.Author.Tests.{le-leb, lt-leb, ne-eqb}
+use Rattle.text.specs.Text.{text, find, nextAt}
+use Rattle.profile.specs.Limits.{Profile, limitsOf, inRange, idOf, profileOf}
+use Rattle.profile.specs.declared.limits.NumberRule.{NumberRule}
+use Rattle.profile.specs.declared.limits.BytesRule.{BytesRule}
+use Rattle.profile.specs.declared.limits.Limits.{Limits}
+use Rattle.profile.specs.declared.fields.Version.{Version}
+use Rattle.profile.specs.declared.fields.Version.the-variants.{Absent, Number}
+use Rattle.profile.specs.declared.fields.Fields.{Fields}
+use Rattle.fast_path.specs.Walk.{starts, andThen, Taken, taken, numeralIn, isWritten, writtenNumber, leftOut, numberIn, writtenBytes, bytesIn, allowed, versionIn, numbersIn, headIn, withStrings, afterId, walked}
+
+-- what stands after a separator and a name
+rest-at : (s name : List ℕ) (at : ℕ) → drop (suc (length name)) (drop at s) ≡ drop (at + 1 + length name) s
+rest-at s name at =
+    let e : at + suc (length name) ≡ at + 1 + length name = omega arith in
+    drop-drop (suc (length name)) at s ∙ ap (λ (k : ℕ). drop k s) e
+
+-- ---- a number
+
+module _ (r : NumberRule) (o : Option (ℕ × List ℕ)) (n : ℕ) (t : List ℕ) (e : o ≡ some (n, t)) where
+  pub number-outside : inRange r n ≡ false → andThen o (writtenNumber r) ≡ none
+  number-outside h = rw (e, h)
+
+  pub number-unwritten : inRange r n ≡ true → isWritten r n ≡ false → andThen o (writtenNumber r) ≡ none
+  number-unwritten h w = rw (e, h, w)
+
+  pub number-written : inRange r n ≡ true → isWritten r n ≡ true → andThen o (writtenNumber r) ≡ some (taken n 44 t)
+  number-written h w = rw (e, h, w)
+
+module _ (r : NumberRule) (name : List ℕ) (separator : ℕ) (s : List ℕ) (at : ℕ) where
+  pub number-there : starts (separator ∷ name) (drop at s) ≡ true
+      → numberIn r name separator (drop at s) ≡ andThen (numeralIn (drop (at + 1 + length name) s)) (writtenNumber r)
+  unfolding numberIn
+  number-there e = rw (e, rest-at s name at)
+
+  pub number-absent : starts (separator ∷ name) (drop at s) ≡ false → numberIn r name separator (drop at s) ≡ leftOut r separator (drop at s)
+  unfolding numberIn
+  number-absent e = rw e
+
+-- ---- a byte string
+
+module _ (r : BytesRule) (name : List ℕ) (separator : ℕ) (s : List ℕ) (at : ℕ) where
+  pub bytes-there : starts (separator ∷ name) (drop at s) ≡ true → bytesIn r name separator (drop at s) ≡ writtenBytes r (drop (at + 1 + length name) s)
+  unfolding bytesIn
+  bytes-there e = rw (e, rest-at s name at)
+
+  pub bytes-absent : starts (separator ∷ name) (drop at s) ≡ false → bytesIn r name separator (drop at s) ≡ some (taken [] separator (drop at s))
+  unfolding bytesIn
+  bytes-absent e = rw e
+
+-- ---- the version
+
+module _ (r : Profile) (s : List ℕ) (at : ℕ) where
+  pub version-none : starts (text "$v=") (drop at s) ≡ true → numeralIn (drop (at + 3) s) ≡ none → versionIn r (drop at s) ≡ none
+  unfolding versionIn
+  version-none e q = rw (e, drop-drop 3 at s, q)
+
+  pub version-there : starts (text "$v=") (drop at s) ≡ true → (n : ℕ) (t : List ℕ) → numeralIn (drop (at + 3) s) ≡ some (n, t)
+      → versionIn r (drop at s) ≡ allowed r (Number n) t
+  unfolding versionIn
+  version-there e n t q = rw (e, drop-drop 3 at s, q)
+
+  pub version-absent : starts (text "$v=") (drop at s) ≡ false → versionIn r (drop at s) ≡ allowed r Absent (drop at s)
+  unfolding versionIn
+  version-absent e = rw e
+
+-- ---- m, t and p
+
+-- eight for each lane, by a quotient that can't wrap
+lanes : (m p : ℕ) → p ≤ m / 8 → 8 * p ≤ m
+lanes m p h = omega arith
+
+few : (m p : ℕ) → m / 8 < p → m < 8 * p
+few m p h = omega arith
+
+module _ (l : Limits) (k : ℕ) (v : Version) (s : List ℕ) where
+  pub no-m : numberIn (l .m) (text "m=") 36 s ≡ none → numbersIn l k v s ≡ none
+  unfolding numbersIn
+  no-m e = rw e
+
+  module _ (m a : ℕ) (t : List ℕ) (e : numberIn (l .m) (text "m=") 36 s ≡ some (taken m a t)) where
+    pub no-t : numberIn (l .t) (text "t=") a t ≡ none → numbersIn l k v s ≡ none
+    unfolding numbersIn
+    no-t q = rw (e, q)
+
+    module _ (n b : ℕ) (u : List ℕ) (q : numberIn (l .t) (text "t=") a t ≡ some (taken n b u)) where
+      pub no-p : numberIn (l .p) (text "p=") b u ≡ none → numbersIn l k v s ≡ none
+      unfolding numbersIn
+      no-p w = rw (e, q, w)
+
+      module _ (p c : ℕ) (x : List ℕ) (w : numberIn (l .p) (text "p=") b u ≡ some (taken p c x)) where
+        pub few-kilobytes : m / 8 < p → numbersIn l k v s ≡ none
+        unfolding numbersIn
+        few-kilobytes h = rw (e, q, w, lt-leb (8 * p) m (few m p h))
+
+        pub all-numbers : p ≤ m / 8 → numbersIn l k v s ≡ some (taken (record { id = k; version = v; m = m; t = n; p = p }) c x)
+        unfolding numbersIn
+        all-numbers h = rw (e, q, w, le-leb (8 * p) m (lanes m p h))
+
+-- ---- version and numbers
+
+module _ (e : List Profile) (k : ℕ) (s : List ℕ) where
+  pub head-none : versionIn (profileOf e k) s ≡ none → headIn e k s ≡ none
+  unfolding headIn
+  head-none q = rw q
+
+  pub head-some : (v : Version) (a : ℕ) (t : List ℕ) → versionIn (profileOf e k) s ≡ some (taken v a t)
+      → headIn e k s ≡ numbersIn (limitsOf (profileOf e k)) k v t
+  unfolding headIn
+  head-some v a t q = rw q
+
+-- ---- the whole
+
+module _ (e : List Profile) (k : ℕ) (z : k ≡ 0 → ⊥) (s : List ℕ) where
+  pub after-none : headIn e k s ≡ none → afterId e k s ≡ none
+  after-none q = rw (ne-eqb k 0 z, q)
+
+  pub after-some : (l : Limits) → l ≡ limitsOf (profileOf e k) → (n : Taken Fields) → headIn e k s ≡ some n → afterId e k s ≡ withStrings l n
+  after-some l w n q = rw (ne-eqb k 0 z, q, w)
+
+pub walked-empty : (e : List Profile) (s : List ℕ) → length s ≡ 0 → walked e s ≡ none
+unfolding walked
+walked-empty e [] h = refl
+walked-empty e (c ∷ s) h = absurd (omega arith)
+
+pub walked-other : (e : List Profile) (s : List ℕ) → (length s ≡ 0 → ⊥) → (getD s 0 0 ≡ 36 → ⊥) → walked e s ≡ none
+unfolding walked
+walked-other e [] h n = refl
+walked-other e (c ∷ s) h n = rw (ne-eqb c 36 n)
+
+find-length : (d : ℕ) (t : List ℕ) → find d t ≤ length t
+find-length d [] = omega arith
+find-length d (c ∷ t) = go (eqb c d) (find-length d t)
+  where
+    go : (b : Bool) → find d t ≤ length t → cond b 0 (suc (find d t)) ≤ suc (length t)
+    go true h = omega arith
+    go false h = omega arith
+
+pub next-inside : (d : ℕ) (s : List ℕ) → (length s ≡ 0 → ⊥) → nextAt d s 1 ≤ length s
+next-inside d s h = omega (arith, find-length d (drop 1 s), length-drop 1 s)
+
+pub walked-id : (e : List Profile) (s : List ℕ) (end : ℕ) → (length s ≡ 0 → ⊥) → getD s 0 0 ≡ 36 → end ≡ nextAt 36 s 1
+    → walked e s ≡ afterId e (idOf e (take (end - 1) (drop 1 s))) (drop end s)
+unfolding walked
+walked-id e [] end h n q = absurd (h refl)
+walked-id e (c ∷ s) end h n q =
+    let a : end - 1 ≡ find 36 s = omega arith in
+    let b : end ≡ suc (find 36 s) = omega arith in
+    rw (n, a, b)

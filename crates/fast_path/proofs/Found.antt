@@ -1,0 +1,196 @@
+-- What the walk finds in a string is permitted, and is written to exactly that string, in every edition that passes the test `sound`.
+-- Assumes nothing.
+use Prim.Native.Nat.{ℕ, _*_, _≤_}
+use mathlib.Core.Bool.{true, false, not, _&&_, false≢true}
+use mathlib.Core.List.{List, [], _∷_, _++_}
+use mathlib.Core.Option.{some}
+use mathlib.Core.Path.{_≡_, refl, sym, _∙_, ap, subst}
+use lib.Dec.{leb, eqb}
+use lib.ListN.{take, drop, take-append-drop}
+use borrow.Author.Tests.{leb-true}
+use Rattle.text.specs.Text.{text, all, empty, find, isByte}
+use Rattle.profile.specs.Limits.{Profile, limitsOf, inRange, versionAllowed, idOf, profileOf}
+use Rattle.profile.specs.Fields.{FieldSet, fieldSet, writeBytes, writeVersion}
+use Rattle.profile.specs.Sound.{soundNumber, sound}
+use Rattle.profile.specs.Writer.{bytesAllowed, OfBytes, Permitted, formatted}
+use Rattle.profile.specs.WriterSteps.{tagged, piecesText}
+use Rattle.profile.specs.declared.limits.Limits.{Limits}
+use Rattle.profile.specs.declared.fields.Version.{Version}
+use Rattle.profile.specs.declared.fields.Fields.{Fields}
+use Rattle.profile.proofs.Texts.{formatted-is}
+use Rattle.profile.proofs.Kept.{Kept, here, permitted-of}
+use Rattle.profile.proofs.Table.{Entry, entry-at, name-of}
+use Rattle.fast_path.specs.Walk.{starts, Taken, versionIn, numbersIn, Pair, pairIn, keysIn, hashesIn, headIn, afterId, walked}
+use Rattle.fast_path.proofs.Starts.{starts-is}
+use Rattle.fast_path.proofs.ItemTexts.{items, Stands, stands-append, costItems, keyItems, fiveItems, hashesText, restText, pieces-row}
+use Rattle.fast_path.proofs.Stands.{Holds, holds-then, holds-map, holds-if, number-then, bytes-then, VersionStands, version-stands}
+
+-- ---- the numbers, and the byte strings two by two
+
+record NumbersStand (l : Limits) (k : ℕ) (v : Version) (s : List ℕ) (x : Taken Fields) : Type 0 where
+  id : x .found .id ≡ k
+  version : x .found .version ≡ v
+  m : inRange (l .m) (x .found .m) ≡ true
+  t : inRange (l .t) (x .found .t) ≡ true
+  p : inRange (l .p) (x .found .p) ≡ true
+  lanes : 8 * x .found .p ≤ x .found .m
+  stands : Stands 36 (costItems l (x .found)) s (x .separator) (x .rest)
+
+numbers-stand : (l : Limits) (k : ℕ) (v : Version) (s : List ℕ) → soundNumber (l .m) ≡ true → soundNumber (l .t) ≡ true → soundNumber (l .p) ≡ true
+    → Holds (NumbersStand l k v s) (numbersIn l k v s)
+unfolding numbersIn
+numbers-stand l k v s sm st sp =
+    let Q = NumbersStand l k v s in
+    number-then Q (l .m) sm (text "m=") 36 s _ (λ m hm.
+    number-then Q (l .t) st (text "t=") (m .separator) (m .rest) _ (λ t ht.
+    number-then Q (l .p) sp (text "p=") (t .separator) (t .rest) _ (λ p hp.
+    holds-if Q (leb (8 * p .found) (m .found)) _ _
+    (λ e. record {
+      id = refl;
+      version = refl;
+      m = hm .0;
+      t = ht .0;
+      p = hp .0;
+      lanes = leb-true (8 * p .found) (m .found) e;
+      stands = stands-append (hm .1) (stands-append (ht .1) (hp .1));
+    })
+    (λ e. tt))))
+
+record KeysStand (l : Limits) (separator : ℕ) (s : List ℕ) (x : Taken Pair) : Type 0 where
+  keyid : bytesAllowed (l .keyid) (x .found .first) ≡ true
+  ad : bytesAllowed (l .ad) (x .found .second) ≡ true
+  keyid-bytes : all isByte (x .found .first) ≡ true
+  ad-bytes : all isByte (x .found .second) ≡ true
+  stands : Stands separator (keyItems (x .found .first) (x .found .second)) s (x .separator) (x .rest)
+
+keys-stand : (l : Limits) (separator : ℕ) (s : List ℕ) → Holds (KeysStand l separator s) (keysIn l separator s)
+unfolding pairIn
+keys-stand l separator s =
+    let Q = KeysStand l separator s in
+    bytes-then Q (l .keyid) (text "keyid=") separator s _ (λ k hk.
+    bytes-then Q (l .ad) (text "data=") (k .separator) (k .rest) _ (λ d hd.
+    record {
+      keyid = hk .permitted;
+      ad = hd .permitted;
+      keyid-bytes = hk .bytes;
+      ad-bytes = hd .bytes;
+      stands = stands-append (hk .stands) (hd .stands);
+    }))
+
+record HashesStand (l : Limits) (s : List ℕ) (x : Taken Pair) : Type 0 where
+  salt : bytesAllowed (l .salt) (x .found .first) ≡ true
+  output : bytesAllowed (l .output) (x .found .second) ≡ true
+  salt-bytes : all isByte (x .found .first) ≡ true
+  output-bytes : all isByte (x .found .second) ≡ true
+  order : (empty (x .found .first) && not (empty (x .found .second))) ≡ false
+  stands : empty (x .rest) ≡ true → s ≡ hashesText (x .found .first) (x .found .second)
+
+-- nothing is left
+nothing : (s : List ℕ) → empty s ≡ true → s ≡ []
+nothing [] e = refl
+nothing (c ∷ s) e = absurd (false≢true e)
+
+-- where there is no salt there is no `$`, so no output
+ordered : (salt output s rest : List ℕ) → s ≡ tagged (text "$") (writeBytes salt) ++ rest
+    → empty salt ≡ not (starts (text "$") s) → empty output ≡ not (starts (text "$") rest) → (empty salt && not (empty output)) ≡ false
+ordered [] output s rest e p q = rw (q, ← e, ← p)
+ordered (b ∷ salt) output s rest e p q = refl
+
+hashes-stand : (l : Limits) (s : List ℕ) → Holds (HashesStand l s) (hashesIn l s)
+unfolding pairIn
+hashes-stand l s =
+    let Q = HashesStand l s in
+    bytes-then Q (l .salt) [] 36 s _ (λ a ha.
+    bytes-then Q (l .output) [] 36 (a .rest) _ (λ o ho.
+    record {
+      salt = ha .permitted;
+      output = ho .permitted;
+      salt-bytes = ha .bytes;
+      output-bytes = ho .bytes;
+      order = ordered (a .found) (o .found) s (a .rest) (ha .stands .here) (ha .nothing) (ho .nothing);
+      stands = λ e.
+          ha .stands .here ∙ ap (λ (x : List ℕ). tagged (text "$") (writeBytes (a .found)) ++ x)
+          (ho .stands .here ∙ ap (λ (x : List ℕ). tagged (text "$") (writeBytes (o .found)) ++ x) (nothing (o .rest) e));
+    }))
+
+-- ---- the whole
+
+-- the version and the numbers, of the entry r
+record HeadStands (r : Profile) (k : ℕ) (s : List ℕ) (x : Taken Fields) : Type 0 where
+  version : versionAllowed r (x .found .version) ≡ true
+  middle : List ℕ
+  here : s ≡ tagged (text "$") (writeVersion (x .found .version)) ++ middle
+  numbers : NumbersStand (limitsOf r) k (x .found .version) middle x
+
+head-stands : (e : List Profile) (k : ℕ) (s : List ℕ) → Entry e k (profileOf e k) → Holds (HeadStands (profileOf e k) k s) (headIn e k s)
+unfolding headIn
+head-stands e k s E =
+    let r = profileOf e k in
+    let l = limitsOf r in
+    holds-then (VersionStands r s) (HeadStands r k s) (versionIn r s) _ (version-stands r s) (λ v hv.
+    holds-map (NumbersStand l k (v .found) (v .rest)) (HeadStands r k s) (numbersIn l k (v .found) (v .rest))
+    (numbers-stand l k (v .found) (v .rest) (E .m) (E .t) (E .p)) (λ x h.
+    let q = sym (h .version) in
+    record {
+      version = subst (λ (w : Version). versionAllowed r w ≡ true) q (hv .0);
+      middle = v .rest;
+      here = subst (λ (w : Version). s ≡ tagged (text "$") (writeVersion w) ++ v .rest) q (hv .1);
+      numbers = subst (λ (w : Version). NumbersStand l k w (v .rest) x) q h;
+    }))
+
+-- the fields f are permitted, and written to s
+abbrev Found : List Profile → List ℕ → FieldSet → Type 0
+Found e s f = Permitted e f × (formatted e f ≡ s)
+
+-- from the entry of their id
+found : (e : List Profile) (s : List ℕ) (f : FieldSet) (r : Profile) → here e f ≡ r → Kept r f → OfBytes f → piecesText (limitsOf r) (r .name) f ≡ s → Found e s f
+found e s f r q k b t =
+    (permitted-of e f (subst (λ (r : Profile). Kept r f) (sym q) k) b, formatted-is e f ∙ ap (λ (r : Profile). piecesText (limitsOf r) (r .name) f) q ∙ t)
+
+module _ (e : List Profile) (ok : sound e ≡ true) where
+  -- what is found behind the name of an id
+  after-id-stands : (s name u : List ℕ) → s ≡ (36 ∷ name) ++ u → Holds (Found e s) (afterId e (idOf e name) u)
+  after-id-stands s name u q =
+      let k = idOf e name in
+      let r = profileOf e k in
+      let l = limitsOf r in
+      holds-if (Found e s) (eqb k 0) _ _ (λ z. tt) (λ z.
+      let N = name-of e name z in
+      holds-then (HeadStands r k u) (Found e s) (headIn e k u) _ (head-stands e k u (entry-at e ok k (N .1))) (λ n hn.
+      holds-then (KeysStand l (n .separator) (n .rest)) (Found e s) (keysIn l (n .separator) (n .rest)) _ (keys-stand l (n .separator) (n .rest)) (λ y hy.
+      holds-then (HashesStand l (y .rest)) (Found e s) (hashesIn l (y .rest)) _ (hashes-stand l (y .rest)) (λ h hh.
+      holds-if (Found e s) (empty (h .rest)) _ _ (λ z.
+      let c = hn .numbers in
+      let f = fieldSet (n .found) (y .found .first) (y .found .second) (h .found .first) (h .found .second) in
+      let row = stands-append (c .stands) (hy .stands) in
+      let same-rest : u ≡ restText l f =
+      hn .here ∙ ap (λ (x : List ℕ). tagged (text "$") (writeVersion (n .found .version)) ++ x)
+      (row .here ∙ ap (items 36 (fiveItems l (n .found) (y .found .first) (y .found .second))) (hh .stands z)) in
+      found e s f r (ap (profileOf e) (c .id)) (
+      record {
+        id = N .1;
+        version = hn .version;
+        m = c .m;
+        t = c .t;
+        p = c .p;
+        lanes = c .lanes;
+        keyid = hy .keyid;
+        ad = hy .ad;
+        salt = hh .salt;
+        output = hh .output;
+        order = hh .order;
+      }
+      ) (hy .keyid-bytes, hy .ad-bytes, hh .salt-bytes, hh .output-bytes)
+      (pieces-row l (r .name) f ∙ ap (λ (x : List ℕ). 36 ∷ (x ++ restText l f)) (N .0) ∙ ap (λ (x : List ℕ). 36 ∷ (name ++ x)) (sym same-rest) ∙ sym q)) (λ z. tt)))))
+
+  walked-stands : (s : List ℕ) → Holds (Found e s) (walked e s)
+  unfolding walked
+  walked-stands s =
+      let t = drop 1 s in
+      holds-if (Found e s) (starts (text "$") s) _ _
+      (λ h. after-id-stands s (take (find 36 t) t) (drop (find 36 t) t)
+      (starts-is (text "$") s h ∙ ap (λ (x : List ℕ). 36 ∷ x) (sym (take-append-drop (find 36 t) t))))
+      (λ h. tt)
+
+  pub walk-sound : (s : List ℕ) (f : FieldSet) → walked e s ≡ some f → Permitted e f × (formatted e f ≡ s)
+  walk-sound s f q = subst (Holds (Found e s)) q (walked-stands s)

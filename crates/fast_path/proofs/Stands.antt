@@ -1,0 +1,148 @@
+-- What the walk takes stands there: each text that is found is the one that the writer puts for it, and the rest stands behind it.
+-- Assumes nothing.
+use Prim.Native.Nat.{ℕ, suc}
+use mathlib.Core.Bool.{Bool, true, false, not, cond, _&&_, false≢true}
+use mathlib.Core.List.{List, [], _∷_, _++_, append-assoc}
+use mathlib.Core.Option.{Option, none, some}
+use mathlib.Core.Path.{_≡_, refl, sym, _∙_, ap}
+use native.Mathlib.Omega.{arith}
+use lib.Dec.{leb, eqb}
+use lib.ListN.{length, drop}
+use borrow.Author.Tests.{eq-eqb}
+use Rattle.text.specs.Text.{text, within, all, empty, isByte}
+use Rattle.decimal.specs.Decimal.{isDigit, isUnsigned, value, digits}
+use Rattle.b64.specs.B64.{inAlphabet, canonical, decode, encode}
+use Rattle.text.proofs.Tests.{both, is-false, to-within}
+use Rattle.decimal.proofs.DecimalLaws.{digits-value}
+use Rattle.b64.proofs.B64Laws.{encode-decode, bytes-decode}
+use Rattle.profile.specs.Limits.{Profile, inRange, isSize, versionAllowed, largest32}
+use Rattle.profile.specs.Fields.{writeNumber, writeBytes, writeVersion}
+use Rattle.profile.specs.Sound.{soundNumber}
+use Rattle.profile.specs.Writer.{bytesAllowed}
+use Rattle.profile.specs.WriterSteps.{tagged}
+use Rattle.profile.specs.declared.limits.NumberRule.{NumberRule}
+use Rattle.profile.specs.declared.limits.NumberRule.the-variants.{Needed, Omitted, Fixed}
+use Rattle.profile.specs.declared.limits.BytesRule.{BytesRule}
+use Rattle.profile.specs.declared.fields.Version.{Version}
+use Rattle.profile.specs.declared.fields.Version.the-variants.{Absent, Number}
+use Rattle.fast_path.specs.Walk.{run, starts, andThen, Taken, numeralIn, isWritten, writtenNumber, leftOut, numberIn, bytesIn, allowed, versionIn}
+use Rattle.fast_path.proofs.Starts.{starts-is, run-is}
+use Rattle.fast_path.proofs.ItemTexts.{Stands}
+
+-- ---- a fact of what is found, where something is
+
+abbrev pub Holds : {A : Type 0} → (A → Type 0) → Option A → Type 0
+Holds P none = Unit {0}
+Holds P (some x) = P x
+
+pub holds-then : {A B : Type 0} (P : A → Type 0) (Q : B → Type 0) (o : Option A) (f : A → Option B)
+    → Holds P o → ((x : A) → P x → Holds Q (f x)) → Holds Q (andThen o f)
+holds-then P Q none f h k = tt
+holds-then P Q (some x) f h k = k x h
+
+pub holds-map : {A : Type 0} (P Q : A → Type 0) (o : Option A) → Holds P o → ((x : A) → P x → Q x) → Holds Q o
+holds-map P Q none h k = tt
+holds-map P Q (some x) h k = k x h
+
+pub holds-if : {A : Type 0} (P : A → Type 0) (b : Bool) (o u : Option A) → (b ≡ true → Holds P o) → (b ≡ false → Holds P u) → Holds P (cond b o u)
+holds-if P true o u h k = h refl
+holds-if P false o u h k = k refl
+
+-- ---- one number
+
+numeral-stands : (t : List ℕ) → Holds (λ (x : ℕ × List ℕ). t ≡ digits (x .0) ++ x .1) (numeralIn t)
+unfolding numeralIn
+numeral-stands t =
+    let d = run isDigit t in
+    holds-if _ (isUnsigned d && leb (value d) largest32) _ _
+    (λ h. run-is isDigit t ∙ ap (λ (l : List ℕ). l ++ drop (length d) t) (sym (digits-value d (both (isUnsigned d) (leb (value d) largest32) h .0))))
+    (λ h. tt)
+
+-- behind a text that begins with l
+behind : (l t u rest : List ℕ) → starts l t ≡ true → drop (length l) t ≡ u ++ rest → t ≡ (l ++ u) ++ rest
+behind l t u rest e h = starts-is l t e ∙ ap (λ (x : List ℕ). l ++ x) h ∙ sym (append-assoc l u rest)
+
+written-slot : (r : NumberRule) (n : ℕ) → isWritten r n ≡ true → writeNumber r n ≡ some (digits n)
+written-slot (Needed low high) n e = refl
+written-slot (Omitted low high given) n e = rw (is-false (eqb n given) e)
+written-slot (Fixed given) n e = absurd (false≢true e)
+
+abbrev pub NumberStands : NumberRule → List ℕ → ℕ → List ℕ → Taken ℕ → Type 0
+NumberStands r name separator t x = (inRange r (x .found) ≡ true) × Stands separator ((name, writeNumber r (x .found)) ∷ []) t (x .separator) (x .rest)
+
+left-stands : (r : NumberRule) → soundNumber r ≡ true → (name : List ℕ) (separator : ℕ) (t : List ℕ) → Holds (NumberStands r name separator t) (leftOut r separator t)
+left-stands (Needed low high) k name separator t = tt
+left-stands (Omitted low high given) k name separator t =
+    let e = eq-eqb given given refl in
+    (both (leb high largest32) (within low high given) k .1, record { here = rw e; after = rw e })
+left-stands (Fixed given) k name separator t = (to-within given given given (omega arith) (omega arith), record { here = refl; after = refl })
+
+number-stands : (r : NumberRule) → soundNumber r ≡ true → (name : List ℕ) (separator : ℕ) (t : List ℕ) → Holds (NumberStands r name separator t) (numberIn r name separator t)
+unfolding numberIn
+number-stands r k name separator t =
+    let u = drop (suc (length name)) t in
+    holds-if _ (starts (separator ∷ name) t) _ _
+    (λ s. holds-then (λ (y : ℕ × List ℕ). u ≡ digits (y .0) ++ y .1) _ (numeralIn u) (writtenNumber r) (numeral-stands u) (λ y h.
+    holds-if _ (inRange r (y .0) && isWritten r (y .0)) _ _
+    (λ e. let q = both (inRange r (y .0)) (isWritten r (y .0)) e in
+    let w = written-slot r (y .0) (q .1) in
+    (q .0, record { here = rw w (behind (separator ∷ name) t (digits (y .0)) (y .1) s h); after = rw w }))
+    (λ e. tt)))
+    (λ s. left-stands r k name separator t)
+
+pub number-then : {B : Type 0} (Q : B → Type 0) (r : NumberRule) → soundNumber r ≡ true → (name : List ℕ) (separator : ℕ) (t : List ℕ) (f : Taken ℕ → Option B)
+    → ((x : Taken ℕ) → NumberStands r name separator t x → Holds Q (f x)) → Holds Q (andThen (numberIn r name separator t) f)
+number-then Q r k name separator t f h = holds-then (NumberStands r name separator t) Q (numberIn r name separator t) f (number-stands r k name separator t) h
+
+-- ---- one byte string
+
+pub record BytesStand (r : BytesRule) (name : List ℕ) (separator : ℕ) (t : List ℕ) (x : Taken (List ℕ)) : Type 0 where
+  pub permitted : bytesAllowed r (x .found) ≡ true
+  pub bytes : all isByte (x .found) ≡ true
+  pub stands : Stands separator ((name, writeBytes (x .found)) ∷ []) t (x .separator) (x .rest)
+  -- there are none where the separator and the name don't stand there
+  pub nothing : empty (x .found) ≡ not (starts (separator ∷ name) t)
+
+filled-slot : (bs : List ℕ) → not (empty bs) ≡ true → writeBytes bs ≡ some (encode bs)
+filled-slot [] e = absurd (false≢true e)
+filled-slot (b ∷ bs) e = refl
+
+bytes-stand : (r : BytesRule) (name : List ℕ) (separator : ℕ) (t : List ℕ) → Holds (BytesStand r name separator t) (bytesIn r name separator t)
+unfolding bytesIn
+bytes-stand r name separator t =
+    let v = drop (suc (length name)) t in
+    let u = run inAlphabet v in
+    let bs = decode u in
+    holds-if _ (starts (separator ∷ name) t) _ _
+    (λ s. holds-if _ (canonical u && (not (empty bs) && isSize r (length bs))) _ _
+    (λ e. let p = both (canonical u) (not (empty bs) && isSize r (length bs)) e in
+    let q = both (not (empty bs)) (isSize r (length bs)) (p .1) in
+    let w = filled-slot bs (q .0) in
+    let n = is-false (empty bs) (q .0) in
+    let h : v ≡ encode bs ++ drop (length u) v = rw (encode-decode u (p .0)) (run-is inAlphabet v) in
+    record {
+      permitted = rw (n, q .1);
+      bytes = bytes-decode u (p .0);
+      stands = record { here = rw w (behind (separator ∷ name) t (encode bs) (drop (length u) v) s h); after = rw w };
+      nothing = rw (n, s);
+    })
+    (λ e. tt))
+    (λ s. record { permitted = refl; bytes = refl; stands = record { here = refl; after = refl }; nothing = rw s })
+
+pub bytes-then : {B : Type 0} (Q : B → Type 0) (r : BytesRule) (name : List ℕ) (separator : ℕ) (t : List ℕ) (f : Taken (List ℕ) → Option B)
+    → ((x : Taken (List ℕ)) → BytesStand r name separator t x → Holds Q (f x)) → Holds Q (andThen (bytesIn r name separator t) f)
+bytes-then Q r name separator t f h = holds-then (BytesStand r name separator t) Q (bytesIn r name separator t) f (bytes-stand r name separator t) h
+
+-- ---- the version
+
+abbrev pub VersionStands : Profile → List ℕ → Taken Version → Type 0
+VersionStands r t x = (versionAllowed r (x .found) ≡ true) × (t ≡ tagged (text "$") (writeVersion (x .found)) ++ x .rest)
+
+pub version-stands : (r : Profile) (t : List ℕ) → Holds (VersionStands r t) (versionIn r t)
+unfolding versionIn
+version-stands r t =
+    let u = drop 3 t in
+    holds-if _ (starts (text "$v=") t) _ _
+    (λ s. holds-then (λ (y : ℕ × List ℕ). u ≡ digits (y .0) ++ y .1) _ (numeralIn u) (λ (y : ℕ × List ℕ). allowed r (Number (y .0)) (y .1)) (numeral-stands u) (λ y h.
+    holds-if _ (versionAllowed r (Number (y .0))) _ _ (λ e. (e, behind (text "$v=") t (digits (y .0)) (y .1) s h)) (λ e. tt)))
+    (λ s. holds-if _ (versionAllowed r Absent) _ _ (λ e. (e, refl)) (λ e. tt))

@@ -1,0 +1,139 @@
+-- What the writer puts is taken: each text is read back as what it is written for, and the rest is left.
+-- Assumes nothing.
+use Prim.Native.Nat.{ℕ, _≤_}
+use mathlib.Core.Bool.{Bool, true, false, cond, true≢false}
+use mathlib.Core.List.{List, [], _∷_, _++_, append-assoc}
+use mathlib.Core.Logic.{⊎-elim}
+use mathlib.Core.Option.{Option, none, some}
+use mathlib.Core.Path.{_≡_, refl, sym, _∙_}
+use native.Mathlib.Omega.{arith}
+use lib.Dec.{leb, eqb}
+use lib.ListN.{length, drop}
+use lib.Seq.{drop-at}
+use borrow.Author.Tests.{eqb-true, leb-true, le-leb}
+use Rattle.text.specs.Text.{text, within, all, has, empty, isByte}
+use Rattle.decimal.specs.Decimal.{isDigit, isUnsigned, digits}
+use Rattle.b64.specs.B64.{sextet, inAlphabet, encode}
+use Rattle.grammar.specs.Limits.{largestVersion}
+use Rattle.text.proofs.Tests.{both, either, from-within}
+use Rattle.text.proofs.Lists.{not-in}
+use Rattle.decimal.proofs.DecimalLaws.{unsigned-cases, value-digits, digits-unsigned}
+use Rattle.b64.proofs.B64Laws.{canonical-alphabet, decode-encode, canonical-encode}
+use Rattle.profile.specs.Limits.{Profile, inRange, versionAllowed, largest32}
+use Rattle.profile.specs.Fields.{writeNumber, writeBytes, writeVersion}
+use Rattle.profile.specs.Sound.{soundNumber, soundVersions}
+use Rattle.profile.specs.Writer.{bytesAllowed}
+use Rattle.profile.specs.WriterSteps.{tagged}
+use Rattle.profile.specs.declared.limits.NumberRule.{NumberRule}
+use Rattle.profile.specs.declared.limits.NumberRule.the-variants.{Needed, Omitted, Fixed}
+use Rattle.profile.specs.declared.limits.BytesRule.{BytesRule}
+use Rattle.profile.specs.declared.fields.Version.{Version}
+use Rattle.profile.specs.declared.fields.Version.the-variants.{Absent, Number}
+use Rattle.fast_path.specs.Walk.{run, starts, andThen, taken, numeralIn, isWritten, writtenNumber, leftOut, numberIn, writtenBytes, bytesIn, allowed, versionIn}
+use Rattle.fast_path.proofs.Starts.{starts-own, run-on, Separator, Closed, run-closed}
+use Rattle.fast_path.proofs.ItemTexts.{Named, separatorAfter, items, separator-after, fresh, Behind, closed-items, starts-fresh}
+
+-- what stands behind its tag is read there
+behind-tag : {A : Type 0} (tag t rest : List ℕ) (read : List ℕ → Option A) (left : Option A)
+    → cond (starts tag ((tag ++ t) ++ rest)) (read (drop (length tag) ((tag ++ t) ++ rest))) left ≡ read (t ++ rest)
+behind-tag tag t rest read left = rw (append-assoc tag t rest, starts-own tag (t ++ rest), drop-at tag (t ++ rest) (length tag) refl)
+
+-- ---- one number
+
+unsigned-digits : (s : List ℕ) → isUnsigned s ≡ true → all isDigit s ≡ true
+unfolding isDigit
+unsigned-digits [] e = refl
+unsigned-digits (c ∷ s) e = ⊎-elim (λ (w : (c ≡ 48) × (s ≡ [])). rw (w .0, w .1)) (λ w. w .1) (unsigned-cases c s e)
+
+digits-run : (n : ℕ) (rest : List ℕ) → Closed rest → run isDigit (digits n ++ rest) ≡ digits n
+unfolding isDigit
+digits-run n rest h = run-on isDigit (digits n) rest (unsigned-digits (digits n) (digits-unsigned n)) (run-closed isDigit refl refl rest h)
+
+numeral-reads : (n : ℕ) (rest : List ℕ) → n ≤ largest32 → Closed rest → numeralIn (digits n ++ rest) ≡ some (n, rest)
+unfolding numeralIn
+numeral-reads n rest l h =
+    rw (digits-run n rest h, digits-unsigned n, value-digits n, le-leb n largest32 l, drop-at (digits n) rest (length (digits n)) refl)
+
+-- a number that is no parameter left out
+number-there : (r : NumberRule) (n : ℕ) (name : List ℕ) (separator : ℕ) (rest : List ℕ) → n ≤ largest32 → inRange r n ≡ true → isWritten r n ≡ true → Closed rest
+    → numberIn r name separator (((separator ∷ name) ++ digits n) ++ rest) ≡ some (taken n 44 rest)
+unfolding numberIn
+number-there r n name separator rest l e w h =
+    behind-tag (separator ∷ name) (digits n) rest (λ (u : List ℕ). andThen (numeralIn u) (writtenNumber r)) (leftOut r separator (((separator ∷ name) ++ digits n) ++ rest))
+    ∙ rw (numeral-reads n rest l h, e, w)
+
+number-reads : (r : NumberRule) (n : ℕ) (name : List ℕ) (separator : ℕ) (rest : List ℕ) → soundNumber r ≡ true → inRange r n ≡ true
+    → Closed rest → starts (separator ∷ name) rest ≡ false
+    → numberIn r name separator (tagged (separator ∷ name) (writeNumber r n) ++ rest) ≡ some (taken n (separatorAfter separator (writeNumber r n)) rest)
+unfolding numberIn
+number-reads (Needed low high) n name separator rest k e h f =
+    let l = leb-true high largest32 k in
+    let w = from-within low high n e in
+    number-there (Needed low high) n name separator rest (omega arith) e refl h
+number-reads (Omitted low high given) n name separator rest k e h f = go (eqb n given) refl
+  where
+    go : (b : Bool) → eqb n given ≡ b
+        → numberIn (Omitted low high given) name separator (tagged (separator ∷ name) (cond b none (some (digits n))) ++ rest)
+        ≡ some (taken n (separatorAfter separator (cond b none (some (digits n)))) rest)
+    go true q = rw (f, eqb-true n given q)
+    go false q =
+        let l = leb-true high largest32 (both (leb high largest32) (within low high given) k .0) in
+        let w = from-within low high n e in
+        number-there (Omitted low high given) n name separator rest (omega arith) e (rw q) h
+number-reads (Fixed given) n name separator rest k e h f =
+    let w = from-within given given n e in
+    let q : given ≡ n = omega arith in
+    rw (f, q)
+
+-- ---- one byte string
+
+pub encode-alphabet : (bs : List ℕ) → all isByte bs ≡ true → all inAlphabet (encode bs) ≡ true
+encode-alphabet bs a = canonical-alphabet (encode bs) (canonical-encode bs a)
+
+encode-run : (bs rest : List ℕ) → all isByte bs ≡ true → Closed rest → run inAlphabet (encode bs ++ rest) ≡ encode bs
+unfolding sextet
+encode-run bs rest a h = run-on inAlphabet (encode bs) rest (encode-alphabet bs a) (run-closed inAlphabet refl refl rest h)
+
+pub bytes-reads : (r : BytesRule) (bs name : List ℕ) (separator : ℕ) (rest : List ℕ) → bytesAllowed r bs ≡ true → all isByte bs ≡ true
+    → Closed rest → (empty bs ≡ true → starts (separator ∷ name) rest ≡ false)
+    → bytesIn r name separator (tagged (separator ∷ name) (writeBytes bs) ++ rest) ≡ some (taken bs (separatorAfter separator (writeBytes bs)) rest)
+unfolding bytesIn
+bytes-reads r [] name separator rest p a h f = rw (f refl)
+bytes-reads r (b ∷ bs) name separator rest p a h f =
+    let x = b ∷ bs in
+    behind-tag (separator ∷ name) (encode x) rest (writtenBytes r) (some (taken [] separator (((separator ∷ name) ++ encode x) ++ rest)))
+    ∙ rw (encode-run x rest a h, canonical-encode x a, decode-encode x a, p, drop-at (encode x) rest (length (encode x)) refl)
+
+-- ---- the version
+
+-- an element of a list passes what all do
+one-of-all : (f : ℕ → Bool) (n : ℕ) (l : List ℕ) → all f l ≡ true → has n l ≡ true → f n ≡ true
+one-of-all f n l a h = ⊎-elim (λ p. p) (λ q. absurd (true≢false (sym h ∙ not-in f n q l a))) (either (f n))
+
+pub version-reads : (r : Profile) (v : Version) (rest : List ℕ) → soundVersions (r .versions) ≡ true → versionAllowed r v ≡ true
+    → Closed rest → starts (text "$v=") rest ≡ false
+    → versionIn r (tagged (text "$") (writeVersion v) ++ rest) ≡ some (taken v 36 rest)
+unfolding versionIn
+version-reads r Absent rest k e h f = rw (f, e)
+version-reads r (Number n) rest k e h f =
+    let w = from-within 0 largestVersion n (one-of-all (within 0 largestVersion) n (r .versions) k e) in
+    let l : n ≤ largest32 = omega arith in
+    behind-tag (text "$v=") (digits n) rest (λ (u : List ℕ). andThen (numeralIn u) (λ (x : ℕ × List ℕ). allowed r (Number (x .0)) (x .1))) (allowed r Absent ((text "$v=" ++ digits n) ++ rest))
+    ∙ rw (numeral-reads n rest l h, e)
+
+-- ---- an item, before the items l and a text that stands behind them
+
+module _ (name : List ℕ) (separator : ℕ) (l : List Named) (rest : List ℕ) (m : Separator separator) (h : Behind rest) (e : fresh name l ≡ true) where
+  pub number-item : (r : NumberRule) (n : ℕ) → soundNumber r ≡ true → inRange r n ≡ true
+      → numberIn r name separator (items separator ((name, writeNumber r n) ∷ l) rest)
+      ≡ some (taken n (separatorAfter separator (writeNumber r n)) (items (separatorAfter separator (writeNumber r n)) l rest))
+  number-item r n k p =
+      let b = separatorAfter separator (writeNumber r n) in
+      number-reads r n name separator (items b l rest) k p (closed-items b l rest (separator-after separator (writeNumber r n) m) h) (starts-fresh separator b name l rest h e)
+
+  pub bytes-item : (r : BytesRule) (bs : List ℕ) → bytesAllowed r bs ≡ true → all isByte bs ≡ true
+      → bytesIn r name separator (items separator ((name, writeBytes bs) ∷ l) rest)
+      ≡ some (taken bs (separatorAfter separator (writeBytes bs)) (items (separatorAfter separator (writeBytes bs)) l rest))
+  bytes-item r bs p a =
+      let b = separatorAfter separator (writeBytes bs) in
+      bytes-reads r bs name separator (items b l rest) p a (closed-items b l rest (separator-after separator (writeBytes bs) m) h) (λ z. starts-fresh separator b name l rest h e)

@@ -1,0 +1,58 @@
+-- `fast_path::items::written_number` meets its contract. Assumes nothing.
+use mathlib.Core.Path.{sym, _∙_}
+use Rattle.fast_path.proofs.Chains.{number-outside, number-unwritten, number-written}
+use borrow.Author.Needs.{needs}
+use Rattle.fast_path.proofs.items.written_number.Statement.{statement}
+use Rattle.fast_path.proofs.items.written_number.Tie as tie
+
+number-requires : tie.Need-number-requires
+number-requires c κs = search needs
+
+enum-told : tie.Need-enum-told
+enum-told c = search needs
+
+enum-known-n : tie.Need-enum-known-n
+enum-known-n c = search needs
+
+in-range-requires : tie.Need-in-range-requires
+in-range-requires c κs = search needs
+
+is-written-requires : tie.Need-is-written-requires
+is-written-requires c κs = search needs
+
+returns : tie.Need-returns
+returns c =
+    let i = c .before .before .before in
+    let k = i .before .before in
+    let h = rw (k .n .given .1) at (k .before .before .number .ensures) in
+    (number-written (k .before .before .before .before .args .rule) _ _ _ (h .0) (sym (i .in-range .ensures) ∙ c .before .before .if1 .taken) (sym (c .before .is-written .ensures) ∙ c .if2 .taken), h .1)
+
+returns-2 : tie.Need-returns-2
+returns-2 c =
+    let i = c .before .before .before in
+    let k = i .before .before in
+    let h = rw (k .n .given .1) at (k .before .before .number .ensures) in
+    number-unwritten (k .before .before .before .before .args .rule) _ _ _ (h .0) (sym (i .in-range .ensures) ∙ c .before .before .if1 .taken) (sym (c .before .is-written .ensures) ∙ c .if2 .left)
+
+returns-3 : tie.Need-returns-3
+returns-3 c = rw (rw (c .enum-told .given .1) at (c .before .before .number .ensures))
+
+returns-4 : tie.Need-returns-4
+returns-4 c =
+    let k = c .before .before .before in
+    let h = rw (k .n .given .1) at (k .before .before .number .ensures) in
+    number-outside (k .before .before .before .before .args .rule) _ _ _ (h .0) (sym (c .before .in-range .ensures) ∙ c .if1 .left)
+
+pub written-number-spec : {M : Type 1} → statement M
+written-number-spec =
+    tie.close
+    (tie.spec
+    number-requires
+    enum-told
+    enum-known-n
+    in-range-requires
+    is-written-requires
+    returns
+    returns-2
+    returns-3
+    returns-4)

@@ -1,0 +1,24 @@
+-- `fast_path::run::decode_run` meets its contract. Assumes nothing.
+use Rattle.fast_path.proofs.RunLaws.{reached-run}
+use borrow.Author.Needs.{needs}
+use Rattle.fast_path.proofs.run.decode_run.Statement.{statement}
+use Rattle.fast_path.proofs.run.decode_run.Tie as tie
+
+groups-requires : tie.Need-groups-requires
+groups-requires c κs = search needs
+
+tail-requires : tie.Need-tail-requires
+tail-requires c κs = search needs
+
+same-length : tie.Need-same-length
+same-length c = search needs
+
+returns : tie.Need-returns
+returns c =
+    let t = c .before .before in
+    let h = t .before .before .before .before in
+    let g = h .before .before .before .before .args in
+    reached-run (g .s .now) (g .at) (g .out .now) (g .from) _ (t .tail .last .1 .1 .1 .0) _ _ (h .groups .ensures .0) (t .tail .result) (t .tail .ensures)
+
+pub decode-run-spec : {M : Type 1} → statement M
+decode-run-spec = tie.close (tie.spec groups-requires tail-requires same-length returns)

@@ -1,0 +1,60 @@
+-- `fast_path::walk::after_id` meets its contract. Assumes nothing.
+use native.Mathlib.Omega.{arith}
+use Rattle.fast_path.proofs.Chains.{after-none, after-some}
+use Rattle.fast_path.proofs.StringLaws.{roomy-two}
+use borrow.Author.Needs.{needs}
+use Rattle.fast_path.proofs.walk.after_id.Statement.{statement}
+use Rattle.fast_path.proofs.walk.after_id.Tie as tie
+
+returns : tie.Need-returns
+returns c = rw (c .if1 .taken)
+
+limits-of-requires : tie.Need-limits-of-requires
+limits-of-requires c κs = search needs
+
+head-at-requires : tie.Need-head-at-requires
+head-at-requires c κs = search needs
+
+enum-told : tie.Need-enum-told
+enum-told c = search needs
+
+enum-known-fields : tie.Need-enum-known-fields
+enum-known-fields c = search needs
+
+with-strings-requires : tie.Need-with-strings-requires
+with-strings-requires c κs =
+    let k = c .before .before in
+    let h = k .before .before in
+    let st = h .before .before .before .before .before in
+    let q = rw (k .fields .given .1) at (h .head-at .ensures) in
+    ((q .1, rw (h .before .limits-of .ensures) (omega (arith, roomy-two (st .args .id), st .pre .0 .1))), st .pre .1)
+
+returns-2 : tie.Need-returns-2
+returns-2 c =
+    let h = c .before .before in
+    after-none _ _ (h .before .before .if1 .left) _ (rw (c .enum-told .given .1) at (h .head-at .ensures))
+
+same-length : tie.Need-same-length
+same-length c = search needs
+
+returns-3 : tie.Need-returns-3
+returns-3 c =
+    let w = c .before .before in
+    let k = w .before .before .before in
+    let h = k .before .before in
+    let q = rw (k .fields .given .1) at (h .head-at .ensures) in
+    rw (after-some _ _ (h .before .before .if1 .left) _ _ (h .before .limits-of .ensures) _ (q .0)) (w .with-strings .ensures)
+
+pub after-id-spec : {M : Type 1} → statement M
+after-id-spec =
+    tie.close
+    (tie.spec
+    returns
+    limits-of-requires
+    head-at-requires
+    enum-told
+    enum-known-fields
+    with-strings-requires
+    returns-2
+    same-length
+    returns-3)

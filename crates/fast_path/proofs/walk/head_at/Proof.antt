@@ -1,0 +1,40 @@
+-- `fast_path::walk::head_at` meets its contract. Assumes nothing.
+use Rattle.fast_path.proofs.Chains.{head-none, head-some}
+use borrow.Author.Needs.{needs}
+use Rattle.fast_path.proofs.walk.head_at.Statement.{statement}
+use Rattle.fast_path.proofs.walk.head_at.Tie as tie
+
+version-item-requires : tie.Need-version-item-requires
+version-item-requires c κs = search needs
+
+enum-told : tie.Need-enum-told
+enum-told c = search needs
+
+enum-known-version : tie.Need-enum-known-version
+enum-known-version c = search needs
+
+numbers-requires : tie.Need-numbers-requires
+numbers-requires c κs =
+    let k = c .before in
+    (rw (k .version .given .1) at (k .before .before .version-item .ensures)) .1
+
+returns : tie.Need-returns
+returns c = head-none _ _ _ (rw (c .enum-told .given .1) at (c .before .before .version-item .ensures))
+
+returns-2 : tie.Need-returns-2
+returns-2 c =
+    let k = c .before .before in
+    let st = k .before .before .before .before in
+    let h = rw (k .version .given .1) at (k .before .before .version-item .ensures) in
+    rw (head-some _ _ _ _ _ _ (h .0), ← st .pre .1) (c .numbers .ensures)
+
+pub head-at-spec : {M : Type 1} → statement M
+head-at-spec =
+    tie.close
+    (tie.spec
+    version-item-requires
+    enum-told
+    enum-known-version
+    numbers-requires
+    returns
+    returns-2)

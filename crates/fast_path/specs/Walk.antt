@@ -1,0 +1,150 @@
+-- The walk: an accepted string read from its first byte to its last, each text taken as it stands next. What it finds is what the rules say
+-- (`WalkAgrees`), so no public contract cites the walk itself.
+-- Assumes nothing.
+use Prim.Native.Nat.{ℕ, suc, _*_}
+use mathlib.Core.Path.{_≡_}
+use mathlib.Core.Bool.{Bool, true, false, not, cond, _&&_}
+use mathlib.Core.List.{List, [], _∷_}
+use mathlib.Core.Option.{Option, none, some}
+use lib.Dec.{leb, eqb}
+use lib.ListN.{length, take, drop}
+use Rattle.text.specs.Text.{text, empty, find}
+use Rattle.decimal.specs.Decimal.{isDigit, isUnsigned, value}
+use Rattle.b64.specs.B64.{inAlphabet, canonical, decode}
+use Rattle.profile.specs.Limits.{Profile, limitsOf, inRange, isSize, versionAllowed, idOf, profileOf, largest32}
+use Rattle.profile.specs.Fields.{FieldSet, fieldSet}
+use Rattle.profile.specs.Reader.{answer, fieldsOf}
+use Rattle.profile.specs.declared.limits.NumberRule.{NumberRule}
+use Rattle.profile.specs.declared.limits.NumberRule.the-variants.{Needed, Omitted, Fixed}
+use Rattle.profile.specs.declared.limits.BytesRule.{BytesRule}
+use Rattle.profile.specs.declared.limits.Limits.{Limits}
+use Rattle.profile.specs.declared.fields.Version.{Version}
+use Rattle.profile.specs.declared.fields.Version.the-variants.{Absent, Number}
+use Rattle.profile.specs.declared.fields.Fields.{Fields}
+
+-- the elements of a class at the start of a text
+abbrev pub run : (ℕ → Bool) → List ℕ → List ℕ
+run f [] = []
+run f (c ∷ s) = cond (f c) (c ∷ run f s) []
+
+-- the second text begins with the first
+abbrev pub starts : List ℕ → List ℕ → Bool
+starts [] t = true
+starts (c ∷ l) [] = false
+starts (c ∷ l) (d ∷ t) = eqb d c && starts l t
+
+abbrev pub andThen : {A B : Type 0} → Option A → (A → Option B) → Option B
+andThen none f = none
+andThen (some x) f = f x
+
+-- what was taken, the separator that stands before the next item, `$` before the first and a comma before the others, and the text after it
+pub record Taken (A : Type 0) : Type 0 where
+  pub found : A
+  pub separator : ℕ
+  pub rest : List ℕ
+
+abbrev pub taken : {A : Type 0} → A → ℕ → List ℕ → Taken A
+taken found separator rest = record { found = found; separator = separator; rest = rest }
+
+-- ---- one number
+
+-- the digits at the start, where they are a decimal of 32 bits; and the text after them
+unfoldable pub numeralIn : List ℕ → Option (ℕ × List ℕ)
+numeralIn t = let d = run isDigit t in cond (isUnsigned d && leb (value d) largest32) (some (value d, drop (length d) t)) none
+
+-- a number of the rule is written: it is a parameter, and not the number that stands for one left out
+abbrev pub isWritten : NumberRule → ℕ → Bool
+isWritten (Needed low high) n = true
+isWritten (Omitted low high given) n = not (eqb n given)
+isWritten (Fixed given) n = false
+
+abbrev pub writtenNumber : NumberRule → ℕ × List ℕ → Option (Taken ℕ)
+writtenNumber r x = cond (inRange r (x .0) && isWritten r (x .0)) (some (taken (x .0) 44 (x .1))) none
+
+abbrev pub leftOut : NumberRule → ℕ → List ℕ → Option (Taken ℕ)
+leftOut (Needed low high) separator t = none
+leftOut (Omitted low high given) separator t = some (taken given separator t)
+leftOut (Fixed given) separator t = some (taken given separator t)
+
+-- a number after its separator and its name, or left out
+unfoldable pub numberIn : NumberRule → List ℕ → ℕ → List ℕ → Option (Taken ℕ)
+numberIn r name separator t =
+    cond (starts (separator ∷ name) t) (andThen (numeralIn (drop (suc (length name)) t)) (writtenNumber r)) (leftOut r separator t)
+
+-- ---- one byte string
+
+-- the characters at the start, where they are the text of bytes of a permitted size, and at least one
+abbrev pub writtenBytes : BytesRule → List ℕ → Option (Taken (List ℕ))
+writtenBytes r t =
+    let u = run inAlphabet t in
+    cond (canonical u && (not (empty (decode u)) && isSize r (length (decode u)))) (some (taken (decode u) 44 (drop (length u) t))) none
+
+-- a byte string after its separator and its name, or none
+unfoldable pub bytesIn : BytesRule → List ℕ → ℕ → List ℕ → Option (Taken (List ℕ))
+bytesIn r name separator t =
+    cond (starts (separator ∷ name) t) (writtenBytes r (drop (suc (length name)) t)) (some (taken [] separator t))
+
+-- ---- the version
+
+abbrev pub allowed : Profile → Version → List ℕ → Option (Taken Version)
+allowed r v t = cond (versionAllowed r v) (some (taken v 36 t)) none
+
+unfoldable pub versionIn : Profile → List ℕ → Option (Taken Version)
+versionIn r t =
+    cond (starts (text "$v=") t) (andThen (numeralIn (drop 3 t)) (λ (x : ℕ × List ℕ). allowed r (Number (x .0)) (x .1))) (allowed r Absent t)
+
+-- ---- m, t and p, and m at least 8p
+
+unfoldable pub numbersIn : Limits → ℕ → Version → List ℕ → Option (Taken Fields)
+numbersIn l k v s =
+    andThen (numberIn (l .m) (text "m=") 36 s) (λ (m : Taken ℕ).
+    andThen (numberIn (l .t) (text "t=") (m .separator) (m .rest)) (λ (t : Taken ℕ).
+    andThen (numberIn (l .p) (text "p=") (t .separator) (t .rest)) (λ (p : Taken ℕ).
+    cond (leb (8 * p .found) (m .found))
+    (some (taken (record { id = k; version = v; m = m .found; t = t .found; p = p .found }) (p .separator) (p .rest))) none)))
+
+-- ---- the four byte strings, up to the end
+
+pub record Pair : Type 0 where
+  pub first : List ℕ
+  pub second : List ℕ
+
+-- two byte strings, one after the other; the second has its own `$` where they are pieces
+unfoldable pub pairIn : BytesRule → List ℕ → BytesRule → List ℕ → Bool → ℕ → List ℕ → Option (Taken Pair)
+pairIn a a-name b b-name pieces separator s =
+    andThen (bytesIn a a-name separator s) (λ (x : Taken (List ℕ)).
+    andThen (bytesIn b b-name (cond pieces 36 (x .separator)) (x .rest)) (λ (y : Taken (List ℕ)).
+    some (taken (record { first = x .found; second = y .found }) (y .separator) (y .rest))))
+
+abbrev pub keysIn : Limits → ℕ → List ℕ → Option (Taken Pair)
+keysIn l separator s = pairIn (l .keyid) (text "keyid=") (l .ad) (text "data=") false separator s
+
+abbrev pub hashesIn : Limits → List ℕ → Option (Taken Pair)
+hashesIn l s = pairIn (l .salt) [] (l .output) [] true 36 s
+
+-- nothing is left after them
+abbrev pub withStrings : Limits → Taken Fields → Option FieldSet
+withStrings l n =
+    andThen (keysIn l (n .separator) (n .rest)) (λ (k : Taken Pair).
+    andThen (hashesIn l (k .rest)) (λ (h : Taken Pair).
+    cond (empty (h .rest)) (some (fieldSet (n .found) (k .found .first) (k .found .second) (h .found .first) (h .found .second))) none))
+
+-- ---- the whole
+
+-- version and numbers after the id with the number k
+unfoldable pub headIn : List Profile → ℕ → List ℕ → Option (Taken Fields)
+headIn e k s =
+    andThen (versionIn (profileOf e k) s) (λ (v : Taken Version). numbersIn (limitsOf (profileOf e k)) k (v .found) (v .rest))
+
+abbrev pub afterId : List Profile → ℕ → List ℕ → Option FieldSet
+afterId e k s = cond (eqb k 0) none (andThen (headIn e k s) (withStrings (limitsOf (profileOf e k))))
+
+-- the fields that a string says, where it is written as the writer writes them
+unfoldable pub walked : List Profile → List ℕ → Option FieldSet
+walked e s =
+    let t = drop 1 s in
+    cond (starts (text "$") s) (afterId e (idOf e (take (find 36 t) t)) (drop (find 36 t) t)) none
+
+-- the walk finds the fields of each accepted string, and nothing in any other
+abbrev pub WalkAgrees : List Profile → Type 0
+WalkAgrees e = (s : List ℕ) → walked e s ≡ cond (eqb (answer e s) 0) (some (fieldsOf e s)) none

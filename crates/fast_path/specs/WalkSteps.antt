@@ -1,0 +1,197 @@
+-- What the private steps of the walk promise each other: places in the string for the texts of the walk, and the bytes that they leave in a
+-- buffer. Nothing here is a rule: no public contract cites it.
+-- Assumes nothing.
+use Prim.Native.Nat.{ℕ, _+_, _*_, _/_, _%_, _≤_, _<_}
+use mathlib.Core.Path.{_≡_}
+use mathlib.Core.Bool.{true, cond}
+use mathlib.Core.List.{List, [], _∷_, _++_}
+use mathlib.Core.Option.{Option, none, some}
+use lib.Dec.{eqb}
+use lib.ListN.{length, take, drop}
+use Rattle.decimal.specs.Decimal.{isDigit, value}
+use Rattle.b64.specs.B64.{inAlphabet, canonical, decode}
+use Rattle.text.specs.Place.{over, put}
+use Rattle.profile.specs.Fields.{FieldSet}
+use Rattle.profile.specs.Entries.{joinedBytes, refusedContents}
+use Rattle.profile.specs.declared.limits.BytesRule.{BytesRule}
+use Rattle.profile.specs.declared.limits.BytesRule.the-variants.{Sized, Barred}
+use Rattle.profile.specs.declared.limits.Limits.{Limits}
+use Rattle.profile.specs.declared.fields.Version.{Version}
+use Rattle.profile.specs.declared.fields.Fields.{Fields}
+use Rattle.profile.specs.declared.fields.Contents.{Contents}
+use Rattle.fast_path.specs.Walk.{run, Taken, taken, numeralIn, Pair}
+use Rattle.fast_path.specs.declared.numeral.Numeral.{Numeral}
+use Rattle.fast_path.specs.declared.numeral.Numeral.the-variants.{No as Numeral·No, Is as Numeral·Is}
+use Rattle.fast_path.specs.declared.run.Run.{Run}
+use Rattle.fast_path.specs.declared.run.Run.the-variants.{No as Run·No, To as Run·To}
+use Rattle.fast_path.specs.declared.items.NumberItem.{NumberItem}
+use Rattle.fast_path.specs.declared.items.NumberItem.the-variants.{No as NumberItem·No, Is as NumberItem·Is}
+use Rattle.fast_path.specs.declared.items.BytesItem.{BytesItem}
+use Rattle.fast_path.specs.declared.items.BytesItem.the-variants.{No as BytesItem·No, To as BytesItem·To}
+use Rattle.fast_path.specs.declared.strings.Two.{Two}
+use Rattle.fast_path.specs.declared.strings.Two.the-variants.{No as Two·No, To as Two·To}
+use Rattle.fast_path.specs.declared.walk.VersionItem.{VersionItem}
+use Rattle.fast_path.specs.declared.walk.VersionItem.the-variants.{No as VersionItem·No, Is as VersionItem·Is}
+use Rattle.fast_path.specs.declared.walk.Head.{Head}
+use Rattle.fast_path.specs.declared.walk.Head.the-variants.{No as Head·No, Is as Head·Is}
+use Rattle.fast_path.specs.declared.walk.Walk.{Walk}
+use Rattle.fast_path.specs.declared.walk.Walk.the-variants.{Nothing, Found}
+
+-- ---- numbers
+
+-- the digits at a place
+abbrev pub digitsAt : List ℕ → ℕ → List ℕ
+digitsAt s at = run isDigit (drop at s)
+
+-- n is the number of the digits at a place, and next the place after them
+pub record Counted (s : List ℕ) (at n next : ℕ) : Type 0 where
+  pub number : n ≡ value (digitsAt s at)
+  pub next-is : next ≡ at + length (digitsAt s at)
+
+abbrev pub NumeralIs : List ℕ → ℕ → Numeral → Type 0
+NumeralIs s at Numeral·No = numeralIn (drop at s) ≡ none
+NumeralIs s at (Numeral·Is n next) = (numeralIn (drop at s) ≡ some (n, drop next s)) × (next ≤ length s)
+
+abbrev pub NumberIs : Option (Taken ℕ) → List ℕ → NumberItem → Type 0
+NumberIs o s NumberItem·No = o ≡ none
+NumberIs o s (NumberItem·Is n next separator) = (o ≡ some (taken n separator (drop next s))) × (next ≤ length s)
+
+abbrev pub VersionIs : Option (Taken Version) → List ℕ → VersionItem → Type 0
+VersionIs o s VersionItem·No = o ≡ none
+VersionIs o s (VersionItem·Is v next) = (o ≡ some (taken v 36 (drop next s))) × (next ≤ length s)
+
+abbrev pub HeadIs : Option (Taken Fields) → List ℕ → Head → Type 0
+HeadIs o s Head·No = o ≡ none
+HeadIs o s (Head·Is f next separator) = (o ≡ some (taken f separator (drop next s))) × (next ≤ length s)
+
+-- ---- a run of B64 characters
+
+-- the bytes of 24 bits, of three sextets, and of two
+abbrev pub three : ℕ → List ℕ
+three n = n / 65536 ∷ n / 256 % 256 ∷ n % 256 ∷ []
+
+abbrev pub two : ℕ → ℕ → ℕ → List ℕ
+two a b c = (a * 4 + b / 16) ∷ (b % 16 * 16 + c / 4) ∷ []
+
+abbrev pub one : ℕ → ℕ → List ℕ
+one a b = (a * 4 + b / 16) ∷ []
+
+-- the characters at a place, and their bytes
+abbrev pub textAt : List ℕ → ℕ → List ℕ
+textAt s at = run inAlphabet (drop at s)
+
+abbrev pub bytesAt : List ℕ → ℕ → List ℕ
+bytesAt s at = decode (textAt s at)
+
+-- whole groups were decoded up to a place: what is left there is what is left of the whole
+pub record Reached (s : List ℕ) (at : ℕ) (out₀ : List ℕ) (from : ℕ) (out : List ℕ) (i o : ℕ) : Type 0 where
+  pub inside : i ≤ length s
+  pub room : o ≤ length out
+  pub size : length out ≡ length out₀
+  pub canonical-left : canonical (textAt s i) ≡ canonical (textAt s at)
+  pub text-left : i + length (textAt s i) ≡ at + length (textAt s at)
+  pub count-left : o + length (bytesAt s i) ≡ from + length (bytesAt s at)
+  pub bytes-left : over out o (bytesAt s i) ≡ over out₀ from (bytesAt s at)
+
+-- no further group stands there, or it doesn't fit
+abbrev pub Stopped : List ℕ → List ℕ → ℕ → ℕ → Type 0
+Stopped s out i o = 4 ≤ length (textAt s i) → length out < o + 3
+
+-- the run is a canonical text, and its bytes stand in the buffer
+pub record Ran (s : List ℕ) (at : ℕ) (out₀ : List ℕ) (from : ℕ) (out : List ℕ) (next end : ℕ) : Type 0 where
+  pub canonical-is : canonical (textAt s at) ≡ true
+  pub next-is : next ≡ at + length (textAt s at)
+  pub end-is : end ≡ from + length (bytesAt s at)
+  pub room : end ≤ length out₀
+  pub stored : out ≡ over out₀ from (bytesAt s at)
+
+-- where it isn't, the text is not canonical, or there was hardly room
+abbrev pub RunIs : List ℕ → ℕ → List ℕ → ℕ → List ℕ → Run → Type 0
+RunIs s at out₀ from out Run·No = canonical (textAt s at) ≡ true → length out₀ < from + length (bytesAt s at) + 2
+RunIs s at out₀ from out (Run·To next end) = Ran s at out₀ from out next end
+
+-- ---- byte strings
+
+-- the most bytes that a rule permits
+abbrev pub most : BytesRule → ℕ
+most (Sized low high) = high .0
+most Barred = 0
+
+-- a byte string was taken, at most `high` bytes, and stands in the buffer
+pub record Stored (o : Option (Taken (List ℕ))) (high : ℕ) (s out₀ : List ℕ) (from : ℕ) (out : List ℕ) (next end separator : ℕ) : Type 0 where
+  pub bytes : List ℕ
+  pub found : o ≡ some (taken bytes separator (drop next s))
+  pub inside : next ≤ length s
+  pub small : length bytes ≤ high
+  pub end-is : end ≡ from + length bytes
+  pub stored : out ≡ over out₀ from bytes
+
+abbrev pub BytesAre : Option (Taken (List ℕ)) → ℕ → List ℕ → List ℕ → ℕ → List ℕ → BytesItem → Type 0
+BytesAre o high s out₀ from out BytesItem·No = o ≡ none
+BytesAre o high s out₀ from out (BytesItem·To next end separator) = Stored o high s out₀ from out next end separator
+
+-- two byte strings were taken, one after the other
+pub record StoredTwo (o : Option (Taken Pair)) (high : ℕ) (s out₀ : List ℕ) (from : ℕ) (out : List ℕ) (next middle end : ℕ) : Type 0 where
+  pub pair : Pair
+  pub separator : ℕ
+  pub found : o ≡ some (taken pair separator (drop next s))
+  pub inside : next ≤ length s
+  pub small : length (pair .first) + length (pair .second) ≤ high
+  pub middle-is : middle ≡ from + length (pair .first)
+  pub end-is : end ≡ middle + length (pair .second)
+  pub stored : out ≡ over out₀ from (pair .first ++ pair .second)
+
+abbrev pub TwoAre : Option (Taken Pair) → ℕ → List ℕ → List ℕ → ℕ → List ℕ → Two → Type 0
+TwoAre o high s out₀ from out Two·No = o ≡ none
+TwoAre o high s out₀ from out (Two·To next middle end) = StoredTwo o high s out₀ from out next middle end
+
+-- ---- the whole
+
+-- 01's kind, by the lengths of salt and output
+abbrev pub kindFor : ℕ → ℕ → ℕ
+kindFor salt output = cond (eqb output 0) (cond (eqb salt 0) 1 2) 3
+
+abbrev pub contentsFor : Fields → ℕ → ℕ → ℕ → ℕ → Contents
+contentsFor f keyid ad salt output =
+    record {
+      reading = record { number = 0; kind = kindFor salt output; fields = f };
+      keyid = record { 0 = keyid };
+      ad = record { 0 = ad };
+      salt = record { 0 = salt };
+      output = record { 0 = output };
+    }
+
+-- room for all four byte strings, and two bytes more for the decoder's test
+abbrev pub roomy : Limits → ℕ
+roomy l = most (l .keyid) + most (l .ad) + most (l .salt) + most (l .output) + 2
+
+-- the buffer that the walk decodes into
+abbrev pub bufferLength : ℕ
+bufferLength = 160
+
+-- the answer that goes with fields: accepted, and each byte string's length
+abbrev pub contentsOf : FieldSet → Contents
+contentsOf f =
+    contentsFor (f .numbers) (length (f .keyid)) (length (f .ad)) (length (f .salt)) (length (f .output))
+
+-- the fields were found, and their byte strings stand at the start of the buffer
+pub record StoredAll (o : Option FieldSet) (out₀ out : List ℕ) (c : Contents) : Type 0 where
+  pub fields : FieldSet
+  pub found : o ≡ some fields
+  pub contents-are : c ≡ contentsOf fields
+  pub room : length (joinedBytes fields) ≤ length out₀
+  pub stored : out ≡ over out₀ 0 (joinedBytes fields)
+
+abbrev pub FoundIn : Option FieldSet → List ℕ → List ℕ → Walk → Type 0
+FoundIn o out₀ out Nothing = o ≡ none
+FoundIn o out₀ out (Found c) = StoredAll o out₀ out c
+
+-- ---- into the caller's buffer
+
+abbrev pub total : Contents → ℕ
+total c = c .keyid .0 + c .ad .0 + c .salt .0 + c .output .0
+
+-- the first bytes of out that c counts, put from the place on; or the refusal
+pub record StoredIs (c : Contents) (out buf₀ : List ℕ) (at : ℕ) (buf : List ℕ) (r : Contents) : Type 0 where
+  pub answer : r ≡ cond (eqb (put buf₀ at (take (total c) out) .number) 0) c (refusedContents (put buf₀ at (take (total c) out) .number))
+  pub buffer : buf ≡ put buf₀ at (take (total c) out) .buffer

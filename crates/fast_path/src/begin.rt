@@ -1,0 +1,35 @@
+// Whether a separator and a name stand at a place.
+ghost use Prim.Native.Nat.{_≤_};
+ghost use mathlib.Core.Path.{_≡_};
+ghost use mathlib.Core.List.{_∷_};
+ghost use lib.ListN.{length, drop};
+ghost use Rattle.fast_path.specs.Walk.{starts};
+
+fn same_at(s: &[u8], at: usize, name: &[u8]) -> bool
+    requires { ⌜ at ≤ length (now s) ⌝ }
+    ensures { λ r. ⌜ r ≡ starts (now (name .entry)) (drop at (now (s .entry))) ⌝ }
+{
+    if s.len() - at < name.len() {
+        return false;
+    }
+    let mut i = 0;
+    while i < name.len() {
+        if s[at + i] != name[i] {
+            return false;
+        }
+        i += 1;
+    }
+    true
+}
+
+pub fn begins(s: &[u8], at: usize, separator: u8, name: &[u8]) -> bool
+    ensures { λ r. ⌜ r ≡ starts (separator ∷ now (name .entry)) (drop at (now (s .entry))) ⌝ }
+{
+    if s.len() <= at {
+        return false;
+    }
+    if s[at] != separator {
+        return false;
+    }
+    same_at(s, at + 1, name)
+}

@@ -1,0 +1,135 @@
+// One item of a string after its separator and its name, or left out: a number, a byte string.
+use crate::begin::begins;
+use crate::numeral::Numeral;
+use crate::numeral::number;
+use crate::run::Run;
+use crate::run::decode_run;
+use profile::limits::BytesRule;
+use profile::limits::NumberRule;
+use profile::limits::in_range;
+use profile::limits::is_size;
+use text::units::Bytes;
+ghost use Prim.Native.Nat.{ℕ, _+_, _≤_};
+ghost use mathlib.Core.Path.{_≡_};
+ghost use mathlib.Core.List.{List};
+ghost use lib.ListN.{length, drop};
+ghost use Rattle.b64.specs.B64.{Sextets};
+ghost use Rattle.fast_path.specs.Walk.{andThen, numeralIn, isWritten, writtenNumber, leftOut, numberIn, writtenBytes, bytesIn};
+ghost use Rattle.fast_path.specs.WalkSteps.{NumberIs, most, BytesAre};
+
+// The number, the place after its item, and the separator before the next.
+pub enum NumberItem {
+    No,
+    Is(u32, usize, u8),
+}
+
+// The place after the item, the place after its bytes, and the separator before the next item.
+pub enum BytesItem {
+    No,
+    To(usize, usize, u8),
+}
+
+fn is_written(rule: NumberRule, n: u32) -> bool
+    ensures { λ r. ⌜ r ≡ isWritten rule n ⌝ }
+{
+    match rule {
+        NumberRule::Needed { low: _, high: _ } => true,
+        NumberRule::Omitted {
+            low: _,
+            high: _,
+            given,
+        } => n != given,
+        NumberRule::Fixed { given: _ } => false,
+    }
+}
+
+// A number whose separator and name were read.
+fn written_number(rule: NumberRule, s: &[u8], at: usize) -> NumberItem
+    ensures { λ r. ⌜ NumberIs (andThen (numeralIn (drop at (now (s .entry)))) (writtenNumber rule)) (now (s .entry)) r ⌝ }
+{
+    match number(s, at) {
+        Numeral::No => NumberItem::No,
+        Numeral::Is(n, next) => {
+            if in_range(rule, n) {
+                if is_written(rule, n) {
+                    return NumberItem::Is(n, next, b',');
+                }
+                return NumberItem::No;
+            }
+            NumberItem::No
+        }
+    }
+}
+
+// A number that doesn't stand in the string.
+fn left_out(rule: NumberRule, at: usize, separator: u8) -> NumberItem
+    ensures { λ r. ⌜ ((s : List ℕ) → at ≤ length s → NumberIs (leftOut rule separator (drop at s)) s r) ⌝ }
+{
+    match rule {
+        NumberRule::Needed { low: _, high: _ } => NumberItem::No,
+        NumberRule::Omitted {
+            low: _,
+            high: _,
+            given,
+        } => NumberItem::Is(given, at, separator),
+        NumberRule::Fixed { given } => NumberItem::Is(given, at, separator),
+    }
+}
+
+pub fn number_item(rule: NumberRule, name: &[u8], s: &[u8], at: usize, separator: u8) -> NumberItem
+    requires { ⌜ at ≤ length (now s) ⌝ }
+    ensures { λ r. ⌜ NumberIs (numberIn rule (now (name .entry)) separator (drop at (now (s .entry)))) (now (s .entry)) r ⌝ }
+{
+    if begins(s, at, separator, name) {
+        return written_number(rule, s, at + 1 + name.len());
+    }
+    left_out(rule, at, separator)
+}
+
+// A byte string whose separator and name were read: at least one byte, and as many as permitted.
+fn written_bytes(
+    table: &[u8; 256],
+    rule: BytesRule,
+    s: &[u8],
+    at: usize,
+    out: &mut [u8],
+    from: usize,
+) -> BytesItem
+    requires { ⌜ (at ≤ length (now s)) × (from + most rule + 2 ≤ length (now out)) ⌝ }
+    requires { ⌜ Sextets (now table) ⌝ }
+    ensures { λ r. ⌜ BytesAre (writtenBytes rule (drop at (now (s .entry)))) (most rule) (now (s .entry)) (now (out .entry)) from (now (out .exit)) r ⌝ }
+{
+    match decode_run(table, s, at, out, from) {
+        Run::No => BytesItem::No,
+        Run::To(next, end) => {
+            let n = end - from;
+            if n == 0 {
+                return BytesItem::No;
+            }
+            if is_size(rule, Bytes(n)) {
+                return BytesItem::To(next, end, b',');
+            }
+            BytesItem::No
+        }
+    }
+}
+
+pub fn bytes_item(
+    table: &[u8; 256],
+    rule: BytesRule,
+    name: &[u8],
+    s: &[u8],
+    at: usize,
+    separator: u8,
+    out: &mut [u8],
+    from: usize,
+) -> BytesItem
+    requires { ⌜ (at ≤ length (now s)) × (from + most rule + 2 ≤ length (now out)) ⌝ }
+    requires { ⌜ Sextets (now table) ⌝ }
+    ensures { λ r. ⌜ BytesAre (bytesIn rule (now (name .entry)) separator (drop at (now (s .entry)))) (most rule) (now (s .entry)) (now (out .entry)) from (now (out .exit)) r ⌝ }
+{
+    if begins(s, at, separator, name) {
+        return written_bytes(table, rule, s, at + 1 + name.len(), out, from);
+    }
+    BytesItem::To(at, from, separator)
+}

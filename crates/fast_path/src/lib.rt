@@ -1,0 +1,9 @@
+// The fast path: a good string is read in one walk, from its first byte to its last; any other goes to the profile's reader. The contracts
+// are the profile's own.
+mod begin;
+mod items;
+mod numeral;
+pub mod reader;
+mod run;
+mod strings;
+mod walk;

@@ -1,0 +1,53 @@
+// Two byte strings, one after the other: keyid and data among the parameters, or salt and output.
+use crate::items::BytesItem;
+use crate::items::bytes_item;
+use profile::limits::BytesRule;
+ghost use Prim.Native.Nat.{_+_, _≤_};
+ghost use mathlib.Core.Path.{_≡_};
+ghost use mathlib.Core.Bool.{cond};
+ghost use lib.ListN.{length, drop};
+ghost use Rattle.b64.specs.B64.{Sextets};
+ghost use Rattle.fast_path.specs.Walk.{pairIn};
+ghost use Rattle.fast_path.specs.WalkSteps.{most, TwoAre};
+
+// The place after two byte strings, and the places after the bytes of the first and of the second.
+pub enum Two {
+    No,
+    To(usize, usize, usize),
+}
+
+// A piece has its own `$`; a parameter has the separator that the item before it leaves.
+fn second_separator(pieces: bool, then: u8) -> u8
+    ensures { λ r. ⌜ r ≡ cond pieces 36 then ⌝ }
+{
+    if pieces { b'$' } else { then }
+}
+
+pub fn two_items(
+    table: &[u8; 256],
+    a: BytesRule,
+    a_name: &[u8],
+    b: BytesRule,
+    b_name: &[u8],
+    pieces: bool,
+    s: &[u8],
+    at: usize,
+    separator: u8,
+    out: &mut [u8],
+    from: usize,
+) -> Two
+    requires { ⌜ (at ≤ length (now s)) × (from + most a + most b + 2 ≤ length (now out)) ⌝ }
+    requires { ⌜ Sextets (now table) ⌝ }
+    ensures { λ r. ⌜ TwoAre (pairIn a (now («a_name» .entry)) b (now («b_name» .entry)) pieces separator (drop at (now (s .entry)))) (most a + most b) (now (s .entry)) (now (out .entry)) from (now (out .exit)) r ⌝ }
+{
+    match bytes_item(table, a, a_name, s, at, separator, out, from) {
+        BytesItem::No => Two::No,
+        BytesItem::To(next, middle, then) => {
+            let second = second_separator(pieces, then);
+            match bytes_item(table, b, b_name, s, next, second, out, middle) {
+                BytesItem::No => Two::No,
+                BytesItem::To(last, end, _) => Two::To(last, middle, end),
+            }
+        }
+    }
+}

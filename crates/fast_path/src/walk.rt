@@ -1,0 +1,250 @@
+// The whole walk: id, version, numbers, byte strings.
+use crate::begin::begins;
+use crate::items::NumberItem;
+use crate::items::number_item;
+use crate::numeral::Numeral;
+use crate::numeral::number;
+use crate::strings::Two;
+use crate::strings::two_items;
+use profile::fields::Contents;
+use profile::fields::Fields;
+use profile::fields::Reading;
+use profile::fields::Version;
+use profile::ids::id_number;
+use profile::limits::Limits;
+use profile::limits::limits_of;
+use profile::limits::version_allowed;
+use text::scan::next_at;
+use text::units::Bytes;
+ghost use Prim.Native.Nat.{ℕ, _-_, _≤_};
+ghost use mathlib.Core.Path.{_≡_};
+ghost use mathlib.Core.List.{List};
+ghost use lib.ListN.{length, drop};
+ghost use Rattle.b64.specs.B64.{Sextets};
+ghost use Rattle.profile.specs.Limits.{profileOf, limitsOf, editionTwo};
+ghost use Rattle.fast_path.specs.Walk.{taken, allowed as allowedVersion, versionIn, numbersIn, headIn, withStrings, afterId, walked};
+ghost use Rattle.fast_path.specs.WalkSteps.{VersionIs, HeadIs, kindFor, contentsFor, roomy, bufferLength, FoundIn};
+
+// Room for the four byte strings of any profile, and for the decoder's test of it.
+pub const BUFFER_LEN: usize = 160;
+
+// The version, and the place after it.
+pub enum VersionItem {
+    No,
+    Is(Version, usize),
+}
+
+// The number fields, the place after them, and the separator before the next item.
+pub enum Head {
+    No,
+    Is(Fields, usize, u8),
+}
+
+// What the walk found; nothing where the string is no good one.
+pub enum Walk {
+    Nothing,
+    Found(Contents),
+}
+
+// A version, where the profile permits it.
+fn allowed(id: u8, version: Version, next: usize) -> VersionItem
+    ensures { λ r. ⌜ ((s : List ℕ) → next ≤ length s → VersionIs (allowedVersion (profileOf editionTwo id) version (drop next s)) s r) ⌝ }
+{
+    if version_allowed(id, version) {
+        return VersionItem::Is(version, next);
+    }
+    VersionItem::No
+}
+
+fn version_item(id: u8, s: &[u8], at: usize) -> VersionItem
+    requires { ⌜ at ≤ length (now s) ⌝ }
+    ensures { λ r. ⌜ VersionIs (versionIn (profileOf editionTwo id) (drop at (now (s .entry)))) (now (s .entry)) r ⌝ }
+{
+    if begins(s, at, b'$', b"v=") {
+        return match number(s, at + 3) {
+            Numeral::No => VersionItem::No,
+            Numeral::Is(n, next) => allowed(id, Version::Number(n), next),
+        };
+    }
+    allowed(id, Version::Absent, at)
+}
+
+// m, t and p, and m at least 8p without a product that can wrap.
+fn numbers(limits: Limits, id: u8, version: Version, s: &[u8], at: usize) -> Head
+    requires { ⌜ at ≤ length (now s) ⌝ }
+    ensures { λ r. ⌜ HeadIs (numbersIn limits id version (drop at (now (s .entry)))) (now (s .entry)) r ⌝ }
+{
+    let m_rule = limits.m;
+    let t_rule = limits.t;
+    let p_rule = limits.p;
+    match number_item(m_rule, b"m=", s, at, b'$') {
+        NumberItem::No => Head::No,
+        NumberItem::Is(m, at_t, separator_t) => match number_item(
+            t_rule,
+            b"t=",
+            s,
+            at_t,
+            separator_t,
+        ) {
+            NumberItem::No => Head::No,
+            NumberItem::Is(t, at_p, separator_p) => match number_item(
+                p_rule,
+                b"p=",
+                s,
+                at_p,
+                separator_p,
+            ) {
+                NumberItem::No => Head::No,
+                NumberItem::Is(p, next, separator) => {
+                    if m / 8 < p {
+                        return Head::No;
+                    }
+                    Head::Is(
+                        Fields {
+                            id,
+                            version,
+                            m,
+                            t,
+                            p,
+                        },
+                        next,
+                        separator,
+                    )
+                }
+            },
+        },
+    }
+}
+
+fn head_at(limits: Limits, id: u8, s: &[u8], at: usize) -> Head
+    requires { ⌜ (at ≤ length (now s)) × (limits ≡ limitsOf (profileOf editionTwo id)) ⌝ }
+    ensures { λ r. ⌜ HeadIs (headIn editionTwo id (drop at (now (s .entry)))) (now (s .entry)) r ⌝ }
+{
+    match version_item(id, s, at) {
+        VersionItem::No => Head::No,
+        VersionItem::Is(version, next) => numbers(limits, id, version, s, next),
+    }
+}
+
+// 1 a parameter string, 2 a salt string, 3 a hash string.
+fn kind_for(salt: usize, output: usize) -> u8
+    ensures { λ r. ⌜ r ≡ kindFor salt output ⌝ }
+{
+    if output != 0 {
+        return 3;
+    }
+    if salt != 0 {
+        return 2;
+    }
+    1
+}
+
+// The answer for fields whose byte strings end at these places in their buffer.
+fn contents_for(
+    fields: Fields,
+    keyid_end: usize,
+    ad_end: usize,
+    salt_end: usize,
+    output_end: usize,
+) -> Contents
+    requires { ⌜ («keyid_end» ≤ «ad_end») × («ad_end» ≤ «salt_end») × («salt_end» ≤ «output_end») ⌝ }
+    ensures { λ r. ⌜ r ≡ contentsFor fields «keyid_end» («ad_end» - «keyid_end») («salt_end» - «ad_end») («output_end» - «salt_end») ⌝ }
+{
+    Contents {
+        reading: Reading {
+            number: 0,
+            kind: kind_for(salt_end - ad_end, output_end - salt_end),
+            fields,
+        },
+        keyid: Bytes(keyid_end),
+        ad: Bytes(ad_end - keyid_end),
+        salt: Bytes(salt_end - ad_end),
+        output: Bytes(output_end - salt_end),
+    }
+}
+
+// The byte strings after the number fields, up to the end.
+fn with_strings(
+    table: &[u8; 256],
+    limits: Limits,
+    fields: Fields,
+    s: &[u8],
+    at: usize,
+    separator: u8,
+    out: &mut [u8],
+) -> Walk
+    requires { ⌜ (at ≤ length (now s)) × (roomy limits ≤ length (now out)) ⌝ }
+    requires { ⌜ Sextets (now table) ⌝ }
+    ensures { λ r. ⌜ FoundIn (withStrings limits (taken fields separator (drop at (now (s .entry))))) (now (out .entry)) (now (out .exit)) r ⌝ }
+{
+    let keyid = limits.keyid;
+    let ad = limits.ad;
+    let salt = limits.salt;
+    let output = limits.output;
+    match two_items(
+        table,
+        keyid,
+        b"keyid=",
+        ad,
+        b"data=",
+        false,
+        s,
+        at,
+        separator,
+        out,
+        0,
+    ) {
+        Two::No => Walk::Nothing,
+        Two::To(next, k, d) => {
+            match two_items(table, salt, b"", output, b"", true, s, next, b'$', out, d) {
+                Two::No => Walk::Nothing,
+                Two::To(last, e, g) => {
+                    if last == s.len() {
+                        return Walk::Found(contents_for(fields, k, d, e, g));
+                    }
+                    Walk::Nothing
+                }
+            }
+        }
+    }
+}
+
+// What stands after the id.
+fn after_id(table: &[u8; 256], id: u8, s: &[u8], at: usize, out: &mut [u8]) -> Walk
+    requires { ⌜ (at ≤ length (now s)) × (bufferLength ≤ length (now out)) ⌝ }
+    requires { ⌜ Sextets (now table) ⌝ }
+    ensures { λ r. ⌜ FoundIn (afterId editionTwo id (drop at (now (s .entry)))) (now (out .entry)) (now (out .exit)) r ⌝ }
+{
+    if id == 0 {
+        return Walk::Nothing;
+    }
+    let limits = limits_of(id);
+    match head_at(limits, id, s, at) {
+        Head::No => Walk::Nothing,
+        Head::Is(fields, next, separator) => with_strings(
+            table,
+            limits,
+            fields,
+            s,
+            next,
+            separator,
+            out,
+        ),
+    }
+}
+
+// The fields of a good string, with their byte strings, one after the other, from the start of `out`.
+pub fn walk_string(table: &[u8; 256], s: &[u8], out: &mut [u8]) -> Walk
+    requires { ⌜ bufferLength ≤ length (now out) ⌝ }
+    requires { ⌜ Sextets (now table) ⌝ }
+    ensures { λ r. ⌜ FoundIn (walked editionTwo (now (s .entry))) (now (out .entry)) (now (out .exit)) r ⌝ }
+{
+    if s.len() == 0 {
+        return Walk::Nothing;
+    }
+    if s[0] != b'$' {
+        return Walk::Nothing;
+    }
+    let end = next_at(s, 1, b'$');
+    after_id(table, id_number(&s[1..end]), s, end, out)
+}

@@ -1,0 +1,54 @@
+-- The claims of specs/Claims.antt, proved.
+-- Assumes nothing.
+use Prim.Native.Nat.{ℕ, zero, suc, _≤_}
+use mathlib.Core.Bool.{Bool, true, false, cond}
+use mathlib.Core.List.{List}
+use mathlib.Core.Path.{_≡_, refl, sym, ap, _∙_}
+use native.Mathlib.Omega.{arith}
+use lib.ListN.{length}
+use borrow.Author.Tests.{ne-eqb}
+use Rattle.text.specs.Place.{putAfter}
+use Rattle.profile.specs.Limits.{profileOf, editionTwo, versionAllowed}
+use Rattle.profile.specs.Reader.{answer, fieldsOf}
+use Rattle.profile.specs.Writer.{refusal}
+use Rattle.profile.specs.Entries.{reading, joinedBytes}
+use Rattle.profile.specs.declared.fields.Version.the-variants.{Number}
+use Rattle.profile.proofs.ReadLaws.{reading-number}
+use Rattle.fast_path.specs.Claims.{mostBytes}
+use Rattle.fast_path.proofs.Claims.{fast-path-agrees}
+use Rattle.phc.specs.Records.{wholeLength, recordedWhole}
+use Rattle.phc.specs.Writing.{handed}
+use Rattle.phc.specs.Claims.{ExportsClaims}
+use Rattle.phc.proofs.WholeLaws.{number-left, fits-number}
+
+-- no profile permits the version 0
+no-version-0 : (k : ℕ) → versionAllowed (profileOf editionTwo k) (Number 0) ≡ false
+unfolding editionTwo
+no-version-0 zero = refl
+no-version-0 (suc zero) = refl
+no-version-0 (suc (suc zero)) = refl
+no-version-0 (suc (suc (suc zero))) = refl
+no-version-0 (suc (suc (suc (suc zero)))) = refl
+no-version-0 (suc (suc (suc (suc (suc zero))))) = refl
+no-version-0 (suc (suc (suc (suc (suc (suc k)))))) = refl
+
+flag-refused : (id flag version m t p : ℕ) (keyid ad salt output : List ℕ) → 2 ≤ flag
+    → refusal editionTwo (handed id flag version m t p keyid ad salt output) ≡ cond (profileOf editionTwo id .known) 9 8
+unfolding refusal
+flag-refused id flag version m t p keyid ad salt output h = go (profileOf editionTwo id .known) refl
+  where
+    go : (b : Bool) → profileOf editionTwo id .known ≡ b
+        → refusal editionTwo (handed id flag version m t p keyid ad salt output) ≡ cond b 9 8
+    go true e = rw (ne-eqb flag 0 (omega arith), ne-eqb flag 1 (omega arith), e, no-version-0 id)
+    go false e = rw e
+
+whole-number : (s «record» buffer : List ℕ) → wholeLength ≤ length «record» → mostBytes ≤ length buffer
+    → recordedWhole s «record» buffer .number ≡ reading editionTwo s .number
+unfolding recordedWhole
+whole-number s «record» buffer h k =
+    ap (λ (n : ℕ). putAfter n buffer 0 (joinedBytes (fieldsOf editionTwo s)) .number) (fits-number s «record» buffer h)
+    ∙ number-left (answer editionTwo s) buffer (joinedBytes (fieldsOf editionTwo s)) (λ z. omega (arith, fast-path-agrees .room s z))
+    ∙ sym (reading-number editionTwo s)
+
+pub exports-claims : ExportsClaims
+exports-claims = record { enough = whole-number; flag = flag-refused }

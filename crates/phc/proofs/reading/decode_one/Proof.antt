@@ -1,0 +1,59 @@
+-- `phc::reading::decode_one` meets its contract. Assumes nothing.
+use native.Mathlib.Omega.{arith}
+use borrow.Author.Needs.{needs}
+use denote.Ref.{now}
+use Rattle.profile.specs.Limits.{editionTwo}
+use Rattle.profile.specs.Entries.{decoded}
+use Rattle.phc.proofs.CodeLaws.{left-is, refused-is, done-is}
+use Rattle.phc.proofs.SizeLaws.{decoded-small}
+use Rattle.phc.proofs.reading.decode_one.Statement.{statement}
+use Rattle.phc.proofs.reading.decode_one.Tie as tie
+
+byte-string-requires : tie.Need-byte-string-requires
+byte-string-requires c κs = search needs
+
+cast-result : tie.Need-cast-result
+cast-result c = search needs
+
+same-length : tie.Need-same-length
+same-length c = search needs
+
+returns : tie.Need-returns
+returns c =
+    let b = c .before .before .before in
+    let a = b .before .before .before .before .args in
+    let o = decoded editionTwo (a .choice) (now (a .s)) (now (a .buf)) 0 in
+    let n = b .byte-string .result .number in
+    let k = b .byte-string .result .count .0 in
+    (refused-is n k _ o (b .byte-string .ensures) (c .if1 .taken), left-is n k _ o (b .byte-string .ensures))
+
+mul-result : tie.Need-mul-result
+mul-result c =
+    let b = c .before .before .before .before in
+    let a = b .before .before .before .before .args in
+    let k = b .byte-string .result .count .0 in
+    omega (arith, decoded-small (a .choice) (now (a .s)) (now (a .buf)) (b .byte-string .result .number) k _ (b .byte-string .ensures) (c .before .if1 .left))
+
+same-length-2 : tie.Need-same-length-2
+same-length-2 c = search needs
+
+returns-2 : tie.Need-returns-2
+returns-2 c =
+    let b = c .before .before .before .before in
+    let a = b .before .before .before .before .args in
+    let o = decoded editionTwo (a .choice) (now (a .s)) (now (a .buf)) 0 in
+    let n = b .byte-string .result .number in
+    let k = b .byte-string .result .count .0 in
+    (done-is n k _ o (b .byte-string .ensures) (c .before .if1 .left), left-is n k _ o (b .byte-string .ensures))
+
+pub decode-one-spec : {M : Type 1} → statement M
+decode-one-spec =
+    tie.close
+    (tie.spec
+    byte-string-requires
+    cast-result
+    same-length
+    returns
+    mul-result
+    same-length-2
+    returns-2)

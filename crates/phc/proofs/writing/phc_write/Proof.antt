@@ -1,0 +1,80 @@
+-- `phc::writing::phc_write` meets its contract. Assumes nothing.
+use native.Mathlib.Omega.{arith}
+use mathlib.Core.Path.{_≡_, ap, _∙_}
+use borrow.Author.Needs.{needs}
+use denote.Ref.{now}
+use Rattle.text.specs.Place.{outcome}
+use Rattle.profile.specs.Limits.{editionTwo}
+use Rattle.profile.specs.Fields.{FieldSet, fieldSet}
+use Rattle.profile.specs.Entries.{writing}
+use Rattle.profile.specs.declared.fields.Version.{Version}
+use Rattle.phc.specs.Writing.{handed}
+use Rattle.phc.proofs.CodeLaws.{left-is, refused-is, done-is}
+use Rattle.phc.proofs.SizeLaws.{written-small}
+use Rattle.phc.proofs.writing.phc_write.Statement.{statement}
+use Rattle.phc.proofs.writing.phc_write.Tie as tie
+
+abbrev start : tie.After-write → tie.Start
+start c = c .before .before .before .before .before .before .before .before
+
+abbrev fields : tie.Start → FieldSet
+fields s =
+    handed (s .args .id) (s .args .has-version) (s .args .version) (s .args .m) (s .args .t) (s .args .p) (now (s .args .keyid)) (now (s .args .«data»)) (now (s .args .salt)) (now (s .args .output))
+
+-- what the writer gave, for the fields as they were handed over
+said : (c : tie.After-write)
+    → outcome (c .write .result .number) (c .write .result .count .0) (c .write .last .1 .1 .1 .1 .1 .0) ≡ writing editionTwo (fields (start c)) (now (start c .args .buf)) 0
+said c =
+    let a = start c .args in
+    c .write .ensures
+    ∙ ap (λ (v : Version). writing editionTwo (fieldSet (record { id = a .id; version = v; m = a .m; t = a .t; p = a .p }) (now (a .keyid)) (now (a .«data»)) (now (a .salt)) (now (a .output))) (now (a .buf)) 0)
+    (c .before .before .version-field .ensures)
+
+version-field-requires : tie.Need-version-field-requires
+version-field-requires c κs = search needs
+
+write-requires : tie.Need-write-requires
+write-requires c κs = search needs
+
+cast-result : tie.Need-cast-result
+cast-result c = search needs
+
+same-length : tie.Need-same-length
+same-length c = search needs
+
+returns : tie.Need-returns
+returns c =
+    let w = c .before .before .before in
+    let o = writing editionTwo (fields (start w)) (now (start w .args .buf)) 0 in
+    let n = w .write .result .number in
+    let k = w .write .result .count .0 in
+    (refused-is n k _ o (said w) (c .if1 .taken), left-is n k _ o (said w))
+
+mul-result : tie.Need-mul-result
+mul-result c =
+    let w = c .before .before .before .before in
+    omega (arith, written-small (fields (start w)) (now (start w .args .buf)) (w .write .result .number) (w .write .result .count .0) _ (said w) (c .before .if1 .left))
+
+same-length-2 : tie.Need-same-length-2
+same-length-2 c = search needs
+
+returns-2 : tie.Need-returns-2
+returns-2 c =
+    let w = c .before .before .before .before in
+    let o = writing editionTwo (fields (start w)) (now (start w .args .buf)) 0 in
+    let n = w .write .result .number in
+    let k = w .write .result .count .0 in
+    (done-is n k _ o (said w) (c .before .if1 .left), left-is n k _ o (said w))
+
+pub phc-write-spec : {M : Type 1} → statement M
+phc-write-spec =
+    tie.close
+    (tie.spec
+    version-field-requires
+    write-requires
+    cast-result
+    same-length
+    returns
+    mul-result
+    same-length-2
+    returns-2)

@@ -1,0 +1,80 @@
+-- What the exported functions give: a record as bytes, and a count or a number in one answer.
+-- Assumes nothing.
+use Prim.Native.Nat.{ℕ, _*_, _/_, _%_}
+use mathlib.Core.Bool.{cond}
+use mathlib.Core.List.{List, [], _∷_, _++_}
+use lib.Dec.{eqb}
+use Rattle.text.specs.Place.{Outcome, putAfter}
+use Rattle.profile.specs.Limits.{editionTwo}
+use Rattle.profile.specs.Reader.{fieldsOf}
+use Rattle.profile.specs.Entries.{reading, joinedBytes, counted}
+use Rattle.profile.specs.declared.fields.Version.{Version}
+use Rattle.profile.specs.declared.fields.Version.the-variants.{Absent, Number}
+use Rattle.profile.specs.declared.fields.Reading.{Reading}
+use Rattle.profile.specs.declared.fields.Contents.{Contents}
+
+-- ---- the record
+
+abbrev pub versionFlag : Version → ℕ
+versionFlag Absent = 0
+versionFlag (Number n) = 1
+
+abbrev pub versionNumber : Version → ℕ
+versionNumber Absent = 0
+versionNumber (Number n) = n
+
+-- a 32-bit little-endian number
+abbrev pub bytes32 : ℕ → List ℕ
+bytes32 n = n % 256 ∷ n / 256 % 256 ∷ n / 65536 % 256 ∷ n / 16777216 % 256 ∷ []
+
+-- four of them
+abbrev pub words : ℕ → ℕ → ℕ → ℕ → List ℕ
+words a b c d = bytes32 a ++ (bytes32 b ++ (bytes32 c ++ bytes32 d))
+
+-- kind, id, 1 where a version is written, 0
+abbrev pub headBytes : Reading → List ℕ
+headBytes r = r .kind ∷ r .fields .id ∷ versionFlag (r .fields .version) ∷ 0 ∷ []
+
+-- then version, m, t and p
+abbrev pub recordBytes : Reading → List ℕ
+recordBytes r = let f = r .fields in headBytes r ++ words (versionNumber (f .version)) (f .m) (f .t) (f .p)
+
+abbrev pub recordLength : ℕ
+recordLength = 20
+
+-- the reader's number, then 17 where the record has fewer than 20 bytes; or the record at its start
+unfoldable pub recorded : List ℕ → List ℕ → Outcome
+recorded s buffer = let r = reading editionTwo s in putAfter (r .number) buffer 0 (recordBytes r)
+
+-- ---- all in one call
+
+-- keyid, data, salt and output
+abbrev pub countBytes : Contents → List ℕ
+countBytes c = words (c .keyid .0) (c .ad .0) (c .salt .0) (c .output .0)
+
+abbrev pub wholeLength : ℕ
+wholeLength = 36
+
+-- a record with the counts after it, and the four byte strings one after the other
+pub record Whole : Type 0 where
+  pub number : ℕ
+  pub «record» : List ℕ
+  pub buffer : List ℕ
+
+abbrev pub whole : ℕ → List ℕ → List ℕ → Whole
+whole number «record» buffer = record { number = number; «record» = «record»; buffer = buffer }
+
+-- the reader's number, then 17 where the record or the byte strings don't fit; and both are written, or neither
+unfoldable pub recordedWhole : List ℕ → List ℕ → List ℕ → Whole
+recordedWhole s «record» buffer =
+    let c = counted (reading editionTwo s) (fieldsOf editionTwo s) in
+    let text = recordBytes (c .reading) ++ countBytes c in
+    let fits = putAfter (c .reading .number) «record» 0 text in
+    let bytes = putAfter (fits .number) buffer 0 (joinedBytes (fieldsOf editionTwo s)) in
+    whole (bytes .number) (putAfter (bytes .number) «record» 0 text .buffer) (bytes .buffer)
+
+-- ---- one answer
+
+-- a hundred times the count, or the refusal's number
+abbrev pub coded : Outcome → ℕ
+coded o = cond (eqb (o .number) 0) (100 * o .count) (o .number)

@@ -1,0 +1,69 @@
+// Reading: the record of a string, and each of its byte strings.
+use crate::record::RECORD_LEN;
+use crate::record::put_record;
+use fast_path::reader::read;
+use profile::fields::ByteString;
+use profile::reader::byte_string;
+ghost use mathlib.Core.Path.{_≡_};
+ghost use Rattle.profile.specs.Limits.{editionTwo};
+ghost use Rattle.profile.specs.Entries.{decoded};
+ghost use Rattle.profile.specs.declared.fields.ByteString.the-variants.{Keyid, Data, Salt, Output};
+ghost use Rattle.phc.specs.Records.{recorded, coded};
+
+// 0 and the record in the first 20 bytes, or the reader's number; then 17.
+#[no_mangle]
+pub extern "C" fn phc_read(s: &[u8], record: &mut [u8]) -> u64
+    ensures { λ r. ⌜ (r ≡ recorded (now (s .entry)) (now («record» .entry)) .number) × (now («record» .exit) ≡ recorded (now (s .entry)) (now («record» .entry)) .buffer) ⌝ }
+{
+    let r = read(s);
+    let number = r.number;
+    if number != 0 {
+        return number as u64;
+    }
+    if record.len() < RECORD_LEN {
+        return 17;
+    }
+    put_record(r, record);
+    0
+}
+
+// One byte string into the buffer from its start: a hundred times the count, or the refusal's number.
+fn decode_one(s: &[u8], choice: ByteString, buf: &mut [u8]) -> u64
+    ensures { λ r. ⌜ (r ≡ coded (decoded editionTwo choice (now (s .entry)) (now (buf .entry)) 0)) × (now (buf .exit) ≡ decoded editionTwo choice (now (s .entry)) (now (buf .entry)) 0 .buffer) ⌝ }
+{
+    let r = byte_string(s, choice, buf, 0);
+    let number = r.number;
+    if number != 0 {
+        return number as u64;
+    }
+    let count = r.count;
+    count.0 as u64 * 100
+}
+
+#[no_mangle]
+pub extern "C" fn phc_keyid(s: &[u8], buf: &mut [u8]) -> u64
+    ensures { λ r. ⌜ (r ≡ coded (decoded editionTwo Keyid (now (s .entry)) (now (buf .entry)) 0)) × (now (buf .exit) ≡ decoded editionTwo Keyid (now (s .entry)) (now (buf .entry)) 0 .buffer) ⌝ }
+{
+    decode_one(s, ByteString::Keyid, buf)
+}
+
+#[no_mangle]
+pub extern "C" fn phc_data(s: &[u8], buf: &mut [u8]) -> u64
+    ensures { λ r. ⌜ (r ≡ coded (decoded editionTwo Data (now (s .entry)) (now (buf .entry)) 0)) × (now (buf .exit) ≡ decoded editionTwo Data (now (s .entry)) (now (buf .entry)) 0 .buffer) ⌝ }
+{
+    decode_one(s, ByteString::Data, buf)
+}
+
+#[no_mangle]
+pub extern "C" fn phc_salt(s: &[u8], buf: &mut [u8]) -> u64
+    ensures { λ r. ⌜ (r ≡ coded (decoded editionTwo Salt (now (s .entry)) (now (buf .entry)) 0)) × (now (buf .exit) ≡ decoded editionTwo Salt (now (s .entry)) (now (buf .entry)) 0 .buffer) ⌝ }
+{
+    decode_one(s, ByteString::Salt, buf)
+}
+
+#[no_mangle]
+pub extern "C" fn phc_output(s: &[u8], buf: &mut [u8]) -> u64
+    ensures { λ r. ⌜ (r ≡ coded (decoded editionTwo Output (now (s .entry)) (now (buf .entry)) 0)) × (now (buf .exit) ≡ decoded editionTwo Output (now (s .entry)) (now (buf .entry)) 0 .buffer) ⌝ }
+{
+    decode_one(s, ByteString::Output, buf)
+}

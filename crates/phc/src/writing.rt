@@ -1,0 +1,53 @@
+// Writing: the string of the nine fields.
+use profile::fields::Fields;
+use profile::fields::Version;
+use profile::writer::write;
+ghost use mathlib.Core.Path.{_≡_};
+ghost use Rattle.profile.specs.Limits.{editionTwo};
+ghost use Rattle.profile.specs.Entries.{writing};
+ghost use Rattle.phc.specs.Records.{coded};
+ghost use Rattle.phc.specs.Writing.{versionField, handed};
+
+// Absent, the number, or one that no profile permits.
+fn version_field(has_version: u8, version: u32) -> Version
+    ensures { λ r. ⌜ r ≡ versionField «has_version» version ⌝ }
+{
+    match has_version {
+        0 => Version::Absent,
+        1 => Version::Number(version),
+        _ => Version::Number(0),
+    }
+}
+
+// The string into the buffer from its start: a hundred times the count, or the refusal's number.
+#[no_mangle]
+pub extern "C" fn phc_write(
+    id: u8,
+    has_version: u8,
+    version: u32,
+    m: u32,
+    t: u32,
+    p: u32,
+    keyid: &[u8],
+    data: &[u8],
+    salt: &[u8],
+    output: &[u8],
+    buf: &mut [u8],
+) -> u64
+    ensures { λ r. ⌜ (r ≡ coded (writing editionTwo (handed id «has_version» version m t p (now (keyid .entry)) (now («data» .entry)) (now (salt .entry)) (now (output .entry))) (now (buf .entry)) 0)) × (now (buf .exit) ≡ writing editionTwo (handed id «has_version» version m t p (now (keyid .entry)) (now («data» .entry)) (now (salt .entry)) (now (output .entry))) (now (buf .entry)) 0 .buffer) ⌝ }
+{
+    let fields = Fields {
+        id,
+        version: version_field(has_version, version),
+        m,
+        t,
+        p,
+    };
+    let w = write(fields, keyid, data, salt, output, buf, 0);
+    let number = w.number;
+    if number != 0 {
+        return number as u64;
+    }
+    let count = w.count;
+    count.0 as u64 * 100
+}

@@ -1,0 +1,12 @@
+pub mod Tests
+pub mod Rows
+pub mod Table
+pub mod ClassLaws
+pub mod Scanning
+pub mod Lists
+pub mod Writing
+pub mod Over
+pub mod Wrote
+pub mod Groups
+pub mod Splitting
+pub mod Joining

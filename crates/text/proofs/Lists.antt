@@ -1,0 +1,112 @@
+-- Laws of splitting and joining, of cutting at a byte, and of taking a first element that passes a test.
+-- Assumes nothing.
+use Prim.Native.Nat.{ℕ}
+use mathlib.Core.Bool.{Bool, true, false, cond, true≢false, false≢true}
+use mathlib.Core.List.{List, [], _∷_, _++_}
+use mathlib.Core.Option.{Option, none, some}
+use mathlib.Core.Path.{_≡_, refl, sym, _∙_, ap, ap₂}
+use lib.Dec.{eqb}
+use borrow.Author.Tests.{eqb-true, eq-eqb}
+use Rattle.text.specs.Text.{all, has, same, empty, Parts, putByte, split, join, cutByte, cut, headIf, tailIf, listOf, Frees, Fails, Fits}
+use Rattle.text.proofs.Tests.{both, and-true, neither, or-false}
+
+pub same-eq : (s u : List ℕ) → same s u ≡ true → s ≡ u
+same-eq [] [] e = refl
+same-eq [] (b ∷ bs) e = absurd (false≢true e)
+same-eq (a ∷ s) [] e = absurd (false≢true e)
+same-eq (a ∷ s) (b ∷ bs) e = let p = both (eqb a b) (same s bs) e in ap₂ {C = List ℕ} _∷_ (eqb-true a b (p .0)) (same-eq s bs (p .1))
+
+pub same-refl : (s : List ℕ) → same s s ≡ true
+same-refl [] = refl
+same-refl (a ∷ s) = and-true (eq-eqb a a refl) (same-refl s)
+
+-- a byte outside a class is not in a string of the class
+pub not-in : (f : ℕ → Bool) (d : ℕ) → f d ≡ false → (s : List ℕ) → all f s ≡ true → has d s ≡ false
+not-in f d e [] a = refl
+not-in f d e (c ∷ s) a = or-false (other (eqb c d) refl) (not-in f d e s (p .1))
+  where
+    p : (f c ≡ true) × (all f s ≡ true)
+    p = both (f c) (all f s) a
+
+    other : (b : Bool) → eqb c d ≡ b → eqb c d ≡ false
+    other true q = absurd (true≢false (sym (p .0) ∙ ap f (eqb-true c d q) ∙ e))
+    other false q = q
+
+pub has-append : (d : ℕ) (s u : List ℕ) → has d s ≡ false → has d u ≡ false → has d (s ++ u) ≡ false
+has-append d [] u p q = q
+has-append d (c ∷ s) u p q = let r = neither (eqb c d) (has d s) p in or-false (r .0) (has-append d s u (r .1) q)
+
+pub all-append : (f : ℕ → Bool) (s u : List ℕ) → all f s ≡ true → all f u ≡ true → all f (s ++ u) ≡ true
+all-append f [] u p q = q
+all-append f (c ∷ s) u p q = let r = both (f c) (all f s) p in and-true (r .0) (all-append f s u (r .1) q)
+
+pub all-map : (f g : ℕ → Bool) → ((c : ℕ) → f c ≡ true → g c ≡ true) → (s : List ℕ) → all f s ≡ true → all g s ≡ true
+all-map f g h [] p = refl
+all-map f g h (c ∷ s) p = let r = both (f c) (all f s) p in and-true (h c (r .0)) (all-map f g h s (r .1))
+
+-- ---- splitting and joining
+
+join-cons : (d c : ℕ) (p : List ℕ) (qs : List (List ℕ)) → join d (c ∷ p) qs ≡ c ∷ join d p qs
+join-cons d c p [] = refl
+join-cons d c p (q ∷ qs) = refl
+
+pub join-split : (d : ℕ) (s : List ℕ) → join d (split d s .0) (split d s .1) ≡ s
+join-split d [] = refl
+join-split d (c ∷ s) = go (eqb c d) refl (split d s) (join-split d s)
+  where
+    go : (b : Bool) → eqb c d ≡ b → (p : Parts) → join d (p .0) (p .1) ≡ s → join d (putByte b c p .0) (putByte b c p .1) ≡ c ∷ s
+    go true e p h = ap₂ {C = List ℕ} _∷_ (sym (eqb-true c d e)) h
+    go false e p h = join-cons d c (p .0) (p .1) ∙ ap {B = List ℕ} (λ l. c ∷ l) h
+
+split-free : (d : ℕ) (p : List ℕ) → has d p ≡ false → split d p ≡ (p, [])
+split-free d [] e = refl
+split-free d (c ∷ p) e = let r = neither (eqb c d) (has d p) e in rw (r .0, split-free d p (r .1))
+
+split-append : (d : ℕ) (p r : List ℕ) → has d p ≡ false → split d (p ++ d ∷ r) ≡ (p, split d r .0 ∷ split d r .1)
+split-append d [] r e = rw (eq-eqb d d refl)
+split-append d (c ∷ p) r e = let q = neither (eqb c d) (has d p) e in rw (q .0, split-append d p r (q .1))
+
+pub split-join : (d : ℕ) (p : List ℕ) (qs : List (List ℕ)) → has d p ≡ false → Frees d qs → split d (join d p qs) ≡ (p, qs)
+split-join d p [] e h = split-free d p e
+split-join d p (q ∷ qs) e h = split-append d p (join d q qs) e ∙ rw (split-join d q qs (h .0) (h .1))
+
+-- ---- cutting
+
+pub cut-join : (d : ℕ) (n v : List ℕ) → has d n ≡ false → cut d (n ++ d ∷ v) ≡ (n, v)
+cut-join d [] v e = rw (eq-eqb d d refl)
+cut-join d (c ∷ n) v e = let q = neither (eqb c d) (has d n) e in rw (q .0, cut-join d n v (q .1))
+
+pub join-cut : (d : ℕ) (s : List ℕ) → empty (cut d s .1) ≡ false → cut d s .0 ++ d ∷ cut d s .1 ≡ s
+join-cut d [] e = absurd (true≢false e)
+join-cut d (c ∷ s) e = go (eqb c d) refl (cut d s) e (join-cut d s)
+  where
+    go : (b : Bool) → eqb c d ≡ b → (r : List ℕ × List ℕ) → empty (cutByte b c s r .1) ≡ false → (empty (r .1) ≡ false → r .0 ++ d ∷ r .1 ≡ s) → cutByte b c s r .0 ++ d ∷ cutByte b c s r .1 ≡ c ∷ s
+    go true q r e h = ap {B = List ℕ} (λ x. x ∷ s) (sym (eqb-true c d q))
+    go false q r e h = ap {B = List ℕ} (λ l. c ∷ l) (h e)
+
+-- ---- a first element that passes a test
+
+module _ {A : Type 0} (f : A → Bool) where
+  pub head-tail : (l : List A) → listOf (headIf f l) ++ tailIf f l ≡ l
+  head-tail [] = refl
+  head-tail (x ∷ xs) = go (f x)
+    where
+      go : (b : Bool) → listOf (cond b (some x) none) ++ cond b xs (x ∷ xs) ≡ x ∷ xs
+      go true = refl
+      go false = refl
+
+  head-none : (l : List A) → Fails f l → headIf f l ≡ none
+  head-none [] h = refl
+  head-none (x ∷ xs) h = rw h
+
+  tail-none : (l : List A) → Fails f l → tailIf f l ≡ l
+  tail-none [] h = refl
+  tail-none (x ∷ xs) h = rw h
+
+  pub head-of : (o : Option A) (l : List A) → Fits f o l → headIf f (listOf o ++ l) ≡ o
+  head-of none l h = head-none l h
+  head-of (some x) l h = rw h
+
+  pub tail-of : (o : Option A) (l : List A) → Fits f o l → tailIf f (listOf o ++ l) ≡ l
+  tail-of none l h = tail-none l h
+  tail-of (some x) l h = rw h

@@ -1,0 +1,44 @@
+-- What a Bool test that came out true or false tells of its parts.
+-- Assumes nothing.
+use Prim.Native.Nat.{ℕ, _≤_}
+use mathlib.Core.Bool.{Bool, true, false, not, _&&_, _||_, true≢false, false≢true}
+use mathlib.Core.Path.{_≡_, refl}
+use mathlib.Core.Logic.{_⊎_, inl, inr}
+use lib.Dec.{leb}
+use borrow.Author.Tests.{leb-true, le-leb}
+use Rattle.text.specs.Text.{within}
+
+pub both : (a b : Bool) → (a && b) ≡ true → (a ≡ true) × (b ≡ true)
+both true b e = (refl, e)
+both false b e = absurd (false≢true e)
+
+pub and-true : {a b : Bool} → a ≡ true → b ≡ true → (a && b) ≡ true
+and-true p q = rw (p, q)
+
+pub neither : (a b : Bool) → (a || b) ≡ false → (a ≡ false) × (b ≡ false)
+neither true b e = absurd (true≢false e)
+neither false b e = (refl, e)
+
+pub or-false : {a b : Bool} → a ≡ false → b ≡ false → (a || b) ≡ false
+or-false p q = rw (p, q)
+
+pub not-of-true : {a : Bool} → a ≡ true → not a ≡ false
+not-of-true p = rw p
+
+pub is-true : (a : Bool) → not a ≡ false → a ≡ true
+is-true true e = refl
+is-true false e = absurd (true≢false e)
+
+pub is-false : (a : Bool) → not a ≡ true → a ≡ false
+is-false true e = absurd (false≢true e)
+is-false false e = refl
+
+pub from-within : (low high n : ℕ) → within low high n ≡ true → (low ≤ n) × (n ≤ high)
+from-within low high n e = let p = both (leb low n) (leb n high) e in (leb-true low n (p .0), leb-true n high (p .1))
+
+pub to-within : (low high n : ℕ) → low ≤ n → n ≤ high → within low high n ≡ true
+to-within low high n p q = and-true (le-leb low n p) (le-leb n high q)
+
+pub either : (b : Bool) → (b ≡ true) ⊎ (b ≡ false)
+either true = inl refl
+either false = inr refl

@@ -1,0 +1,60 @@
+-- `text::scan::next_at` meets its contract. Assumes nothing.
+use Prim.Native.Nat.{_-_, _+_}
+use mathlib.Core.Path.{_≡_}
+use native.Mathlib.Omega.{arith}
+use borrow.Author.Needs.{needs}
+use lib.ListN.{length, drop}
+use Rattle.text.specs.Text.{find}
+use denote.Ref.{now}
+use Rattle.text.proofs.Scanning.{find-past, find-here, find-step}
+use Rattle.text.proofs.scan.next_at.Statement.{statement}
+use Rattle.text.proofs.scan.next_at.Tie as tie
+
+abbrev Inv-loop : tie.InvT-loop
+Inv-loop s from byte i₀ i = from + find byte (drop from s) ≡ i + find byte (drop i s)
+
+abbrev μ-loop : tie.MeasureT-loop
+μ-loop s from byte i₀ i = length s - i
+
+loop-holds : tie.Need-loop-holds Inv-loop μ-loop
+loop-holds c = search needs
+
+shared-slice-read-if1 : tie.Need-shared-slice-read-if1 Inv-loop μ-loop
+shared-slice-read-if1 c = search needs
+
+returns : tie.Need-returns Inv-loop μ-loop
+returns c =
+    let a = c .before .before .before .before .args in
+    let i = c .before .before .before .loop .i in
+    omega (arith, find-here (a .byte) (now (a .s)) i (c .before .before .loop-test .taken) (c .if1 .taken))
+
+add-i : tie.Need-add-i Inv-loop μ-loop
+add-i c = search needs
+
+loop-less : tie.Need-loop-less Inv-loop μ-loop
+loop-less c = search needs
+
+loop-again : tie.Need-loop-again Inv-loop μ-loop
+loop-again c =
+    let a = c .before .before .before .before .args in
+    let i = c .before .before .before .loop .i in
+    omega (arith, find-step (a .byte) (now (a .s)) i (c .before .before .loop-test .taken) (c .if1 .left))
+
+returns-2 : tie.Need-returns-2 Inv-loop μ-loop
+returns-2 c =
+    let a = c .before .before .args in
+    omega (arith, find-past (a .byte) (now (a .s)) (c .before .loop .i) (c .loop-test .left))
+
+pub next-at-spec : {M : Type 1} → statement M
+next-at-spec =
+    tie.close
+    (tie.spec
+    Inv-loop
+    μ-loop
+    loop-holds
+    shared-slice-read-if1
+    returns
+    add-i
+    loop-less
+    loop-again
+    returns-2)

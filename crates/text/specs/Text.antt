@@ -1,0 +1,118 @@
+-- Texts as lists of numbers: tests on them, the parts between separators and the way back, a first element that passes a test.
+-- Assumes nothing.
+use Prim.Native.Nat.{ℕ, suc, _+_}
+use Prim.Native.Char.{code}
+use Prim.Native.String.{String, [] as nil, _∷_ as _⊳_}
+use mathlib.Core.Path.{_≡_}
+use mathlib.Core.Bool.{Bool, true, false, not, cond, _&&_, _||_}
+use mathlib.Core.List.{List, [], _∷_, _++_}
+use mathlib.Core.Option.{Option, none, some}
+use lib.Dec.{leb, eqb}
+use lib.ListN.{length, drop}
+
+-- the bytes of a text of ASCII characters
+abbrev pub text : String → List ℕ
+text nil = []
+text (_⊳_ c s) = code c ∷ text s
+
+-- low ≤ n ≤ high
+abbrev pub within : ℕ → ℕ → ℕ → Bool
+within low high n = leb low n && leb n high
+
+abbrev pub isByte : ℕ → Bool
+isByte c = leb c 255
+
+abbrev pub all : {A : Type 0} → (A → Bool) → List A → Bool
+all f [] = true
+all f (x ∷ xs) = f x && all f xs
+
+abbrev pub has : ℕ → List ℕ → Bool
+has d [] = false
+has d (c ∷ cs) = eqb c d || has d cs
+
+abbrev pub same : List ℕ → List ℕ → Bool
+same [] [] = true
+same [] (b ∷ bs) = false
+same (a ∷ s) [] = false
+same (a ∷ s) (b ∷ bs) = eqb a b && same s bs
+
+abbrev pub empty : {A : Type 0} → List A → Bool
+empty [] = true
+empty (x ∷ xs) = false
+
+-- how many elements stand before the first d; all of them where there is none
+abbrev pub find : ℕ → List ℕ → ℕ
+find d [] = 0
+find d (c ∷ cs) = cond (eqb c d) 0 (suc (find d cs))
+
+-- the place of the first d from a place on; the end where there is none.
+-- Free answer: past the end it is the place itself
+abbrev pub nextAt : ℕ → List ℕ → ℕ → ℕ
+nextAt d s from = from + find d (drop from s)
+
+-- the parts between the separators d: the first, and the others
+abbrev pub Parts : Type 0
+Parts = List ℕ × List (List ℕ)
+
+abbrev pub putByte : Bool → ℕ → Parts → Parts
+putByte true c p = ([], p .0 ∷ p .1)
+putByte false c p = (c ∷ p .0, p .1)
+
+abbrev pub split : ℕ → List ℕ → Parts
+split d [] = ([], [])
+split d (c ∷ cs) = putByte (eqb c d) c (split d cs)
+
+-- the same as one list
+abbrev pub parts : ℕ → List ℕ → List (List ℕ)
+parts d s = split d s .0 ∷ split d s .1
+
+-- the parts between the separators from a place on; none past the end
+unfoldable pub partsFrom : ℕ → List ℕ → ℕ → List (List ℕ)
+partsFrom d s at = cond (leb at (length s)) (parts d (drop at s)) []
+
+-- the parts with d between each two
+abbrev pub join : ℕ → List ℕ → List (List ℕ) → List ℕ
+join d p [] = p
+join d p (q ∷ qs) = p ++ d ∷ join d q qs
+
+-- no part has the separator
+abbrev pub Frees : ℕ → List (List ℕ) → Type 0
+Frees d [] = Unit {0}
+Frees d (p ∷ ps) = (has d p ≡ false) × Frees d ps
+
+-- what stands before the first d, and what stands after it; all and nothing where there is none
+abbrev pub cutByte : Bool → ℕ → List ℕ → List ℕ × List ℕ → List ℕ × List ℕ
+cutByte true c cs r = ([], cs)
+cutByte false c cs r = (c ∷ r .0, r .1)
+
+abbrev pub cut : ℕ → List ℕ → List ℕ × List ℕ
+cut d [] = ([], [])
+cut d (c ∷ cs) = cutByte (eqb c d) c cs (cut d cs)
+
+-- the first element where it passes a test, and what is left then
+abbrev pub headIf : {A : Type 0} → (A → Bool) → List A → Option A
+headIf f [] = none
+headIf f (x ∷ xs) = cond (f x) (some x) none
+
+abbrev pub tailIf : {A : Type 0} → (A → Bool) → List A → List A
+tailIf f [] = []
+tailIf f (x ∷ xs) = cond (f x) xs (x ∷ xs)
+
+abbrev pub listOf : {A : Type 0} → Option A → List A
+listOf none = []
+listOf (some x) = x ∷ []
+
+-- the test fails at the first element, if there is one
+abbrev pub Fails : {A : Type 0} → (A → Bool) → List A → Type 0
+Fails f [] = Unit {0}
+Fails f (x ∷ xs) = f x ≡ false
+
+-- what is there passes; where nothing is there, what follows fails
+abbrev pub Fits : {A : Type 0} → (A → Bool) → Option A → List A → Type 0
+Fits f none l = Fails f l
+Fits f (some x) l = f x ≡ true
+
+-- present, and fails the test
+abbrev pub broken : {A : Type 0} → (A → Bool) → Option A → Bool
+broken ok none = false
+broken ok (some x) = not (ok x)
