@@ -18,8 +18,8 @@ use std::fmt::Debug;
 use std::ops::RangeInclusive;
 use std::process::exit;
 
-/// The strings that the programs `known` and `records` run, a line each.
-const KNOWN_FILES: [&[u8]; 2] = [include_bytes!("../crates/known/stdin"), include_bytes!("../crates/records/stdin")];
+/// The strings that the program `records` runs, a line each.
+const RECORDS: &[u8] = include_bytes!("../crates/records/stdin");
 
 const KNOWN: [(&str, u64); 16] = [
     ("$argon2i$m=120,t=5000,p=2$/LtFjH5rVL8", 0),
@@ -508,7 +508,7 @@ fn known(run: &mut Run) {
         run.same("the library's number of a known string", &input, &library, &number);
         run.compare_string(s.as_bytes());
     }
-    for s in KNOWN_FILES.iter().flat_map(|file| file.split(|b| *b == b'\n')) {
+    for s in RECORDS.split(|b| *b == b'\n') {
         run.compare_string(s);
     }
 }

@@ -1,18 +1,17 @@
 -- The steps of the listing: the bytes that a state stands for, what it keeps, and the row of the last line.
 -- Assumes nothing.
-use Prim.Native.Nat.{ℕ, zero, suc, _+_, _-_, _≤_, _<_, min}
+use Prim.Native.Nat.{ℕ, suc, _+_, _-_, _≤_, _<_, min}
 use mathlib.Core.Bool.{Bool, true, false, cond}
-use mathlib.Core.List.{List, [], _∷_, _++_, append-nil, append-assoc}
+use mathlib.Core.List.{List, [], _∷_, _++_, append-nil}
 use mathlib.Core.Path.{_≡_, refl, sym, ap, _∙_}
-use native.Mathlib.Nat.{zero-min, min-zero, suc-min-suc}
 use native.Mathlib.Omega.{arith}
 use borrow.Author.Tests.{le-leb, lt-leb}
 use lib.ListN.{length, take, drop, length-take, length-drop, length-append}
-use lib.Seq.{take-take, length-take-le, take-append-add}
+use lib.Seq.{take-take, length-take-le}
 use Rattle.text.specs.Text.{has, find, cut, nextAt}
 use Rattle.text.specs.Place.{Outcome, outcome, refused, hasRoom, over, put}
 use Rattle.text.proofs.Scanning.{find-le}
-use Rattle.text.proofs.Splitting.{cut-before}
+use Rattle.text.proofs.Splitting.{cut-before, found, unfound, cut-to}
 use Rattle.text.proofs.Writing.{put-fits, over-back}
 use Rattle.text.proofs.Wrote.{wrote-start, wrote-more}
 use Rattle.accounts.specs.Lines.{lastLine, lineAnswer}
@@ -22,12 +21,7 @@ use Rattle.accounts.specs.FeedingSteps.{Held}
 use Rattle.accounts.specs.declared.line.Answer.{Answer}
 use Rattle.accounts.specs.declared.listing.Listed.{Listed}
 use Rattle.accounts.specs.declared.listing.Listed.the-variants.{Row, UsedUp, NoRoom}
-use Rattle.accounts.proofs.LineLaws.{found, unfound}
-
-pub take-min : (d : List ℕ) (n : ℕ) → take (min n (length d)) d ≡ take n d
-take-min d zero = rw zero-min
-take-min [] (suc n) = rw min-zero
-take-min (a ∷ d) (suc n) = rw suc-min-suc (ap (λ (v : List ℕ). a ∷ v) (take-min d n))
+use Rattle.text.proofs.Prefixes.{take-min, take-prefix, over-prefix}
 
 -- ---- the bytes that a state stands for
 
@@ -58,27 +52,14 @@ copied begun more out d₁ d₂ h n₁ c₁ n₂ c₂ e₁ e₂ =
 
 -- ---- what is kept of more bytes
 
-pub kept-more : (d d₁ more : List ℕ) (held count n c : ℕ) → length d ≡ 513 → held ≤ 513 → count ≡ min (513 - held) (length more)
+pub kept-more : (d d₁ more : List ℕ) (held count n c : ℕ) → length d ≡ mostKept → held ≤ mostKept → count ≡ min (mostKept - held) (length more)
     → outcome n c d₁ ≡ put d held (take (count - 0) (drop 0 more))
-    → (held + count ≡ held + length (take (513 - held) more)) × (d₁ ≡ over d held (take (513 - held) more))
+    → (held + count ≡ held + length (take (mostKept - held) more)) × (d₁ ≡ over d held (take (mostKept - held) more))
 kept-more d d₁ more held count n c l h q e =
-    let t : take (count - 0) (drop 0 more) ≡ take (513 - held) more = let z : count - 0 ≡ min (513 - held) (length more) = omega arith in ap (λ (k : ℕ). take k more) z ∙ take-min more (513 - held) in
-    let k : length (take (513 - held) more) ≡ min (513 - held) (length more) = length-take (513 - held) more in
-    let w = put-fits d held (take (513 - held) more) n c d₁ (omega arith) (e ∙ ap (put d held) t) in
+    let t : take (count - 0) (drop 0 more) ≡ take (mostKept - held) more = let z : count - 0 ≡ min (mostKept - held) (length more) = omega arith in ap (λ (k : ℕ). take k more) z ∙ take-min more (mostKept - held) in
+    let k : length (take (mostKept - held) more) ≡ min (mostKept - held) (length more) = length-take (mostKept - held) more in
+    let w = put-fits d held (take (mostKept - held) more) n c d₁ (omega arith) (e ∙ ap (put d held) t) in
     (omega arith, w .left-is)
-
-kept-prefix : (d s : List ℕ) (held : ℕ) → length d ≡ 513 → held ≤ length d → take 513 (take held d ++ s) ≡ take held d ++ take (513 - held) s
-kept-prefix d s held l h =
-    let c : length (take held d) ≡ held = length-take-le held d h in
-    let k : 513 ≡ length (take held d) + (513 - held) = omega arith in
-    ap (λ (m : ℕ). take m (take held d ++ s)) k ∙ take-append-add (take held d) s (513 - held)
-
--- written after the first bytes of a buffer: they and the text, written from its start
-over-prefix : (d t : List ℕ) (held : ℕ) → held ≤ length d → over d held t ≡ over d 0 (take held d ++ t)
-over-prefix d t held h =
-    let c : length (take held d) ≡ held = length-take-le held d h in
-    let z : held + length t ≡ 0 + length (take held d ++ t) = omega (arith, length-append (take held d) t) in
-    ap (λ (m : ℕ). take held d ++ (t ++ drop m d)) z ∙ sym (append-assoc (take held d) t (drop (0 + length (take held d ++ t)) d))
 
 -- ---- the end of the input
 
@@ -131,21 +112,21 @@ module _ (d : List ℕ) (kept held n : ℕ) (part : List ℕ) (from e : ℕ) (bu
   next-row left at r a h q l b f =
       let s = drop from part in
       let there : has 10 s ≡ true = found 10 s (omega (arith, length-drop from part)) in
-      let line : take (e - from) s ≡ cut 10 s .0 = (let z : e - from ≡ find 10 s = omega arith in ap (λ (k : ℕ). take k s) z) ∙ sym (cut-before 10 s) in
+      let line : take (e - from) s ≡ cut 10 s .0 = cut-to 10 part from e q in
       let begun : take (held - 0) (drop 0 d) ≡ heldOf d kept = (let z : held - 0 ≡ held = omega arith in ap (λ (k : ℕ). take k d) z) ∙ h .bytes in
       let answer : a ≡ lineAnswer (heldOf d kept ++ cut 10 s .0) = b ∙ (λ i. lineAnswer (begun i ++ line i)) in
       let place : e + 1 ≡ suc (from + find 10 s) = omega arith in
       rw there (f ∙ (λ i. rowFed n (rowText n (answer i)) (place i) d buf at))
 
-  pub next-used : (d₁ : List ℕ) (at more : ℕ) (rest : List ℕ) → at ≤ length buf → length d ≡ 513 → Held d kept held → e ≡ nextAt 10 part from → length part ≤ e → rest ≡ drop from part
-      → more ≡ held + length (take (513 - held) rest) → d₁ ≡ over d held (take (513 - held) rest)
+  pub next-used : (d₁ : List ℕ) (at more : ℕ) (rest : List ℕ) → at ≤ length buf → length d ≡ mostKept → Held d kept held → e ≡ nextAt 10 part from → length part ≤ e → rest ≡ drop from part
+      → more ≡ held + length (take (mostKept - held) rest) → d₁ ≡ over d held (take (mostKept - held) rest)
       → fed (UsedUp more) d₁ buf ≡ nextFed d kept n part from buf at
   unfolding nextFed
   next-used d₁ at more rest inside l h q g r m o =
       let s = drop from part in
       let none : has 10 s ≡ false = unfound 10 s (omega (arith, length-drop from part)) in
-      let k : take mostKept (heldOf d kept ++ s) ≡ take held d ++ take (513 - held) rest = ap (λ (u : List ℕ). take mostKept (u ++ s)) (sym (h .bytes)) ∙ kept-prefix d s held l (h .inside) ∙ ap (λ (u : List ℕ). take held d ++ take (513 - held) u) (sym r) in
-      let t = take (513 - held) rest in
+      let k : take mostKept (heldOf d kept ++ s) ≡ take held d ++ take (mostKept - held) rest = ap (λ (u : List ℕ). take mostKept (u ++ s)) (sym (h .bytes)) ∙ take-prefix mostKept d s held (omega (arith, h .inside)) (h .inside) ∙ ap (λ (u : List ℕ). take held d ++ take (mostKept - held) u) (sym r) in
+      let t = take (mostKept - held) rest in
       let c : length (take held d) ≡ held = length-take-le held d (h .inside) in
       let count : more ≡ length (take mostKept (heldOf d kept ++ s)) = m ∙ (let z : held + length t ≡ length (take held d ++ t) = omega (arith, length-append (take held d) t) in z) ∙ ap length (sym k) in
       let array : d₁ ≡ over d 0 (take mostKept (heldOf d kept ++ s)) = o ∙ over-prefix d t held (h .inside) ∙ ap (over d 0) (sym k) in

@@ -1,4 +1,4 @@
--- Every run of the listing's calls: a line is judged by its first 513 bytes, and what the calls write are the rows of all lines, wherever
+-- Every run of the listing's calls: a line is judged by its first `mostKept` bytes, and what the calls write are the rows of all lines, wherever
 -- the cuts fall.
 -- Assumes nothing.
 use Prim.Native.Nat.{ℕ, zero, suc, _+_, _<_}
@@ -6,24 +6,24 @@ use mathlib.Core.Bool.{Bool, true, false, cond, _||_, true≢false, false≢true
 use mathlib.Core.List.{List, [], _∷_, _++_, append-nil}
 use mathlib.Core.Path.{_≡_, refl, sym, ap, _∙_}
 use native.Mathlib.Omega.{arith}
-use lib.Dec.{eqb, leb}
+use lib.Dec.{eqb}
 use lib.ListN.{length, take, drop, length-take, length-drop}
-use lib.Seq.{append-snoc, take-all, take-take, drop-drop}
-use borrow.Author.Tests.{leb-true, leb-false, le-leb}
-use Rattle.text.specs.Text.{has, find, cut, cutByte}
+use lib.Seq.{append-snoc, take-take, drop-drop}
+use borrow.Author.Tests.{leb-true, le-leb}
+use Rattle.text.specs.Text.{has, find, cut, cutByte, concat}
 use Rattle.text.specs.Place.{outcome, hasRoom, over, put}
-use Rattle.text.proofs.Tests.{neither, or-false}
-use Rattle.text.proofs.Lists.{has-append}
-use Rattle.text.proofs.Splitting.{cut-after}
+use Rattle.text.proofs.Lists.{has-append, cut-free, cut-whole, take-free}
+use Rattle.text.proofs.Splitting.{cut-after, find-inside}
 use Rattle.text.proofs.Writing.{put-zero, over-back}
 use Rattle.text.proofs.Over.{length-over}
 use Rattle.accounts.specs.Lines.{lastLine, linesFrom, lineAnswer}
 use Rattle.accounts.specs.Listing.{rowText, rowsFrom, nextLine}
-use Rattle.accounts.specs.Feeding.{heldOf, Fed, fed, nextFed, endPut, Calls, row, full, used, end, concat, leftOf}
+use Rattle.accounts.specs.Feeding.{heldOf, Fed, fed, nextFed, endPut, Calls, row, full, used, end, leftOf, mostKept}
 use Rattle.accounts.specs.declared.line.Answer.{Answer}
 use Rattle.accounts.specs.declared.listing.Listed.{Listed}
 use Rattle.accounts.specs.declared.listing.Listed.the-variants.{Row, UsedUp, NoRoom}
-use Rattle.accounts.proofs.LineLaws.{there, answer-long}
+use Rattle.accounts.proofs.LineLaws.{answer-long}
+use Rattle.text.proofs.Prefixes.{take-cut, same-prefix}
 
 -- ---- lines
 
@@ -48,76 +48,41 @@ from-line (a ∷ s) u t h = go (eqb a 10) (from-line s (u ++ (a ∷ [])) t) h
     go true i h = ap (λ (v : List ℕ). v ∷ linesFrom [] (s ++ t)) (sym (append-nil u))
     go false i h = i h ∙ ap (λ (v : List ℕ). v ∷ linesFrom [] (cut 10 s .1 ++ t)) (append-snoc u a (cut 10 s .0))
 
--- ---- a line is judged by its first 513 bytes
+-- ---- a line is judged by its first `mostKept` bytes
 
-take-cut : (n : ℕ) (u t : List ℕ) → take n (take n u ++ t) ≡ take n (u ++ t)
-take-cut zero u t = refl
-take-cut (suc n) [] t = refl
-take-cut (suc n) (a ∷ u) t = ap (λ (v : List ℕ). a ∷ v) (take-cut n u t)
+same-answer : (u v : List ℕ) → take mostKept u ≡ take mostKept v → lineAnswer u ≡ lineAnswer v
+same-answer = same-prefix lineAnswer mostKept (record { number = 18; kind = 0 }) (λ l h. sym (answer-long l (omega arith)))
 
-answer-cut : (l : List ℕ) → lineAnswer (take 513 l) ≡ lineAnswer l
-answer-cut l = go (leb (length l) 513) refl
-  where
-    go : (q : Bool) → leb (length l) 513 ≡ q → lineAnswer (take 513 l) ≡ lineAnswer l
-    go true e = ap lineAnswer (take-all 513 l (leb-true (length l) 513 e))
-    go false e =
-        let h : 513 < length l = leb-false (length l) 513 e in
-        sym (answer-long (take 513 l) (omega (arith, length-take 513 l))) ∙ answer-long l (omega arith)
-
-same-answer : (u v : List ℕ) → take 513 u ≡ take 513 v → lineAnswer u ≡ lineAnswer v
-same-answer u v e = sym (answer-cut u) ∙ ap lineAnswer e ∙ answer-cut v
-
-same-last : (n : ℕ) (u v : List ℕ) → take 513 u ≡ take 513 v → rowsFrom n (lastLine u) ≡ rowsFrom n (lastLine v)
+same-last : (n : ℕ) (u v : List ℕ) → take mostKept u ≡ take mostKept v → rowsFrom n (lastLine u) ≡ rowsFrom n (lastLine v)
 same-last n [] [] e = refl
 same-last n [] (b ∷ v) e = absurd (omega (arith, ap length e))
 same-last n (a ∷ u) [] e = absurd (omega (arith, ap length e))
 same-last n (a ∷ u) (b ∷ v) e = ap (λ (x : Answer). rowText n x ++ []) (same-answer (a ∷ u) (b ∷ v) e)
 
-same-from : (s : List ℕ) (n : ℕ) (u v : List ℕ) → take 513 u ≡ take 513 v → rowsFrom n (linesFrom u s) ≡ rowsFrom n (linesFrom v s)
+same-from : (s : List ℕ) (n : ℕ) (u v : List ℕ) → take mostKept u ≡ take mostKept v → rowsFrom n (linesFrom u s) ≡ rowsFrom n (linesFrom v s)
 same-from [] n u v e = same-last n u v e
 same-from (a ∷ s) n u v e =
     go (eqb a 10)
-    (same-from s n (u ++ (a ∷ [])) (v ++ (a ∷ [])) (sym (take-cut 513 u (a ∷ [])) ∙ ap (λ (w : List ℕ). take 513 (w ++ (a ∷ []))) e ∙ take-cut 513 v (a ∷ [])))
+    (same-from s n (u ++ (a ∷ [])) (v ++ (a ∷ [])) (sym (take-cut mostKept u (a ∷ [])) ∙ ap (λ (w : List ℕ). take mostKept (w ++ (a ∷ []))) e ∙ take-cut mostKept v (a ∷ [])))
   where
     go : (q : Bool) → rowsFrom n (linesFrom (u ++ (a ∷ [])) s) ≡ rowsFrom n (linesFrom (v ++ (a ∷ [])) s)
         → rowsFrom n (cond q (u ∷ linesFrom [] s) (linesFrom (u ++ (a ∷ [])) s)) ≡ rowsFrom n (cond q (v ∷ linesFrom [] s) (linesFrom (v ++ (a ∷ [])) s))
     go true i = ap (λ (x : Answer). rowText n x ++ rowsFrom (nextLine n) (linesFrom [] s)) (same-answer u v e)
     go false i = i
 
-from-cut : (n : ℕ) (u s : List ℕ) → rowsFrom n (linesFrom (take 513 u) s) ≡ rowsFrom n (linesFrom u s)
-from-cut n u s = same-from s n (take 513 u) u (take-take 513 513 u (omega arith))
+from-cut : (n : ℕ) (u s : List ℕ) → rowsFrom n (linesFrom (take mostKept u) s) ≡ rowsFrom n (linesFrom u s)
+from-cut n u s = same-from s n (take mostKept u) u (take-take mostKept mostKept u (omega arith))
 
 -- ---- the bytes that a state stands for hold no line feed
 
-cut-free : (s : List ℕ) → has 10 (cut 10 s .0) ≡ false
-cut-free [] = refl
-cut-free (a ∷ s) = go (eqb a 10) refl (cut-free s)
-  where
-    go : (q : Bool) → eqb a 10 ≡ q → has 10 (cut 10 s .0) ≡ false → has 10 (cutByte q a s (cut 10 s) .0) ≡ false
-    go true e h = refl
-    go false e h = or-false e h
-
-cut-whole : (s : List ℕ) → has 10 s ≡ false → cut 10 s .0 ≡ s
-cut-whole [] h = refl
-cut-whole (a ∷ s) h = go (eqb a 10) (cut-whole s) h
-  where
-    go : (q : Bool) → (has 10 s ≡ false → cut 10 s .0 ≡ s) → (q || has 10 s) ≡ false → cutByte q a s (cut 10 s) .0 ≡ a ∷ s
-    go true i h = absurd (true≢false h)
-    go false i h = ap (λ (v : List ℕ). a ∷ v) (i h)
-
-take-free : (n : ℕ) (s : List ℕ) → has 10 s ≡ false → has 10 (take n s) ≡ false
-take-free zero s h = refl
-take-free (suc n) [] h = refl
-take-free (suc n) (a ∷ s) h = let p = neither (eqb a 10) (has 10 s) h in or-false (p .0) (take-free n s (p .1))
-
 pub held-free : (d : List ℕ) (kept : ℕ) → has 10 (heldOf d kept) ≡ false
 unfolding heldOf
-held-free d kept = cut-free (take kept d)
+held-free d kept = cut-free 10 (take kept d)
 
 -- what was kept is what the state then stands for
 held-back : (d u : List ℕ) → has 10 u ≡ false → heldOf (over d 0 u) (length u) ≡ u
 unfolding heldOf
-held-back d u h = ap (λ (v : List ℕ). cut 10 v .0) (over-back d u 0 (omega arith)) ∙ cut-whole u h
+held-back d u h = ap (λ (v : List ℕ). cut 10 v .0) (over-back d u 0 (omega arith)) ∙ cut-whole 10 u h
 
 -- ---- what a call's answer says
 
@@ -150,7 +115,7 @@ module _ (d : List ℕ) (kept n : ℕ) (p : List ℕ) (from : ℕ) (buffer : Lis
   text = rowText n (lineAnswer (heldOf d kept ++ cut 10 rest .0))
 
   record RowSays (place count line : ℕ) : Type 0 where
-    there : has 10 rest ≡ true
+    find-inside : has 10 rest ≡ true
     array-is : array ≡ d
     wrote : take count (drop at left) ≡ text
     place-is : place ≡ suc (from + find 10 rest)
@@ -161,14 +126,14 @@ module _ (d : List ℕ) (kept n : ℕ) (p : List ℕ) (from : ℕ) (buffer : Lis
   row-says place count line e = go (has 10 rest) refl (hasRoom (length buffer) at (length text)) refl (hasRoom (length buffer) at 0) e
     where
       go : (q : Bool) → has 10 rest ≡ q → (r : Bool) → hasRoom (length buffer) at (length text) ≡ r → (k : Bool)
-          → cond q (cond r (fed (Row (suc (from + find 10 rest)) (record { 0 = length text }) (nextLine n)) d (over buffer at text)) (fed NoRoom d buffer)) (cond k (fed (UsedUp (length (take 513 (heldOf d kept ++ rest)))) (over d 0 (take 513 (heldOf d kept ++ rest))) buffer) (fed NoRoom d buffer))
+          → cond q (cond r (fed (Row (suc (from + find 10 rest)) (record { 0 = length text }) (nextLine n)) d (over buffer at text)) (fed NoRoom d buffer)) (cond k (fed (UsedUp (length (take mostKept (heldOf d kept ++ rest)))) (over d 0 (take mostKept (heldOf d kept ++ rest))) buffer) (fed NoRoom d buffer))
           ≡ fed (Row place (record { 0 = count }) line) array left
           → RowSays place count line
       go true h true t k e =
           let c : length text ≡ count = ap (λ (x : Fed). count-of (x .listed)) e in
           let l : over buffer at text ≡ left = ap (λ (x : Fed). x .buffer) e in
           record {
-            there = h;
+            find-inside = h;
             array-is = sym (ap (λ (x : Fed). x .array) e);
             wrote = sym (λ i. take (c i) (drop at (l i))) ∙ over-back buffer text at (omega (arith, leb-true (at + length text) (length buffer) t));
             place-is = sym (ap (λ (x : Fed). place-of (x .listed)) e);
@@ -183,7 +148,7 @@ module _ (d : List ℕ) (kept n : ℕ) (p : List ℕ) (from : ℕ) (buffer : Lis
   full-says e = go (has 10 rest) (hasRoom (length buffer) at (length text)) (hasRoom (length buffer) at 0) e
     where
       go : (q r k : Bool)
-          → cond q (cond r (fed (Row (suc (from + find 10 rest)) (record { 0 = length text }) (nextLine n)) d (over buffer at text)) (fed NoRoom d buffer)) (cond k (fed (UsedUp (length (take 513 (heldOf d kept ++ rest)))) (over d 0 (take 513 (heldOf d kept ++ rest))) buffer) (fed NoRoom d buffer))
+          → cond q (cond r (fed (Row (suc (from + find 10 rest)) (record { 0 = length text }) (nextLine n)) d (over buffer at text)) (fed NoRoom d buffer)) (cond k (fed (UsedUp (length (take mostKept (heldOf d kept ++ rest)))) (over d 0 (take mostKept (heldOf d kept ++ rest))) buffer) (fed NoRoom d buffer))
           ≡ fed NoRoom array left
           → array ≡ d
       go true true k e = let z : _≡_ {A = ℕ} 0 2 = ap (λ (x : Fed). case-of (x .listed)) e in absurd (omega arith)
@@ -193,15 +158,15 @@ module _ (d : List ℕ) (kept n : ℕ) (p : List ℕ) (from : ℕ) (buffer : Lis
 
   record UsedSays (more : ℕ) : Type 0 where
     none : has 10 rest ≡ false
-    more-is : more ≡ length (take 513 (heldOf d kept ++ rest))
-    array-is : array ≡ over d 0 (take 513 (heldOf d kept ++ rest))
+    more-is : more ≡ length (take mostKept (heldOf d kept ++ rest))
+    array-is : array ≡ over d 0 (take mostKept (heldOf d kept ++ rest))
 
   used-says : (more : ℕ) → nextFed d kept n p from buffer at ≡ fed (UsedUp more) array left → UsedSays more
   unfolding nextFed place-of case-of
   used-says more e = go (has 10 rest) refl (hasRoom (length buffer) at (length text)) (hasRoom (length buffer) at 0) e
     where
       go : (q : Bool) → has 10 rest ≡ q → (r k : Bool)
-          → cond q (cond r (fed (Row (suc (from + find 10 rest)) (record { 0 = length text }) (nextLine n)) d (over buffer at text)) (fed NoRoom d buffer)) (cond k (fed (UsedUp (length (take 513 (heldOf d kept ++ rest)))) (over d 0 (take 513 (heldOf d kept ++ rest))) buffer) (fed NoRoom d buffer))
+          → cond q (cond r (fed (Row (suc (from + find 10 rest)) (record { 0 = length text }) (nextLine n)) d (over buffer at text)) (fed NoRoom d buffer)) (cond k (fed (UsedUp (length (take mostKept (heldOf d kept ++ rest)))) (over d 0 (take mostKept (heldOf d kept ++ rest))) buffer) (fed NoRoom d buffer))
           ≡ fed (UsedUp more) array left
           → UsedSays more
       go true h true k e = let z : _≡_ {A = ℕ} 0 1 = ap (λ (x : Fed). case-of (x .listed)) e in absurd (omega arith)
@@ -232,7 +197,7 @@ end-says d kept n buffer at count left e =
     let w = put-zero buffer at t count left (sym e) in
     (λ i. take (w .count-is i) (drop at (w .left-is i))) ∙ over-back buffer t at (omega (arith, w .fits))
 
-pub run-left : {d : List ℕ} {kept n from : ℕ} {ps : List (List ℕ)} {w : List ℕ} → Calls d kept n from ps w → length d ≡ 513
+pub run-left : {d : List ℕ} {kept n from : ℕ} {ps : List (List ℕ)} {w : List ℕ} → Calls d kept n from ps w → length d ≡ mostKept
     → w ≡ rowsFrom n (linesFrom (heldOf d kept) (leftOf from ps))
 run-left (row {d} {kept} {n} {from} {p} {ps} buffer at {place} {count} {line} {array} {left} {rest} e r) h =
     let q = row-says d kept n p from buffer at array left place count line e in
@@ -240,16 +205,16 @@ run-left (row {d} {kept} {n} {from} {p} {ps} buffer at {place} {count} {line} {a
     let i = run-left r (ap length (q .array-is) ∙ h) in
     let more : rest ≡ rowsFrom (nextLine n) (linesFrom [] (cut 10 s .1 ++ concat ps)) =
     i ∙ ap (λ (u : List ℕ). rowsFrom line (linesFrom u (drop place p ++ concat ps))) (held-none array) ∙ (λ j. rowsFrom (q .line-is j) (linesFrom [] (past p from place (q .place-is) j ++ concat ps))) in
-    (λ j. q .wrote j ++ more j) ∙ ap (rowsFrom n) (sym (from-line s (heldOf d kept) (concat ps) (q .there)))
+    (λ j. q .wrote j ++ more j) ∙ ap (rowsFrom n) (sym (from-line s (heldOf d kept) (concat ps) (q .find-inside)))
 run-left (full {d} {kept} {n} {from} {p} {ps} buffer at {array} {left} {rest} e r) h =
     let q = full-says d kept n p from buffer at array left e in
     run-left r (ap length q ∙ h) ∙ ap (λ (x : List ℕ). rowsFrom n (linesFrom (heldOf x kept) (leftOf from (p ∷ ps)))) q
 run-left (used {d} {kept} {n} {from} {p} {ps} buffer at {more} {array} {left} {rest} e r) h =
     let q = used-says d kept n p from buffer at array left more e in
     let s = drop from p in
-    let u = take 513 (heldOf d kept ++ s) in
-    let free : has 10 u ≡ false = take-free 513 (heldOf d kept ++ s) (has-append 10 (heldOf d kept) s (held-free d kept) (q .none)) in
-    let l : length array ≡ 513 = ap length (q .array-is) ∙ length-over d 0 u (omega (arith, length-take 513 (heldOf d kept ++ s))) ∙ h in
+    let u = take mostKept (heldOf d kept ++ s) in
+    let free : has 10 u ≡ false = take-free 10 mostKept (heldOf d kept ++ s) (has-append 10 (heldOf d kept) s (held-free d kept) (q .none)) in
+    let l : length array ≡ mostKept = ap length (q .array-is) ∙ length-over d 0 u (omega (arith, length-take mostKept (heldOf d kept ++ s))) ∙ h in
     let now : heldOf array more ≡ u = (λ i. heldOf (q .array-is i) (q .more-is i)) ∙ held-back d u free in
     run-left r l
     ∙ (λ i. rowsFrom n (linesFrom (now i) (left-zero ps i)))
@@ -257,7 +222,7 @@ run-left (used {d} {kept} {n} {from} {p} {ps} buffer at {more} {array} {left} {r
     ∙ ap (rowsFrom n) (sym (from-plain s (heldOf d kept) (concat ps) (q .none)))
 run-left (end {d} {kept} {n} buffer at {count} {left} e) h = end-says d kept n buffer at count left e
 
--- ---- there is a run from every state over all parts: the calls come to an end
+-- ---- find-inside is a run from every state over all parts: the calls come to an end
 
 abbrev Runs : List ℕ → ℕ → ℕ → ℕ → List (List ℕ) → Type 0
 Runs d kept n from ps = (written : List ℕ) × Calls d kept n from ps written
@@ -276,7 +241,7 @@ module _ (d : List ℕ) (kept n : ℕ) (p : List ℕ) (from : ℕ) where
   next-row h = rw (h, le-leb (0 + length row-of) (length row-of) (omega arith))
 
   next-used : has 10 rest-of ≡ false → nextFed d kept n p from [] 0
-      ≡ fed (UsedUp (length (take 513 (heldOf d kept ++ rest-of)))) (over d 0 (take 513 (heldOf d kept ++ rest-of))) []
+      ≡ fed (UsedUp (length (take mostKept (heldOf d kept ++ rest-of)))) (over d 0 (take mostKept (heldOf d kept ++ rest-of))) []
   unfolding nextFed
   next-used h = rw h
 
@@ -286,10 +251,10 @@ module _ (d : List ℕ) (kept n : ℕ) (p : List ℕ) (from : ℕ) where
     where
       go : (q : Bool) → has 10 rest-of ≡ q → Runs d kept n from (p ∷ ps)
       go true h =
-          let r = f (omega (arith, there 10 rest-of h, length-drop from p)) in
+          let r = f (omega (arith, find-inside 10 rest-of h, length-drop from p)) in
           (take (length row-of) (drop 0 (over row-of 0 row-of)) ++ r .0, row row-of 0 (next-row h) (r .1))
       go false h =
-          let r = g (over d 0 (take 513 (heldOf d kept ++ rest-of))) (length (take 513 (heldOf d kept ++ rest-of))) in
+          let r = g (over d 0 (take mostKept (heldOf d kept ++ rest-of))) (length (take mostKept (heldOf d kept ++ rest-of))) in
           (r .0, used [] 0 (next-used h) (r .1))
 
 run-part : (k : ℕ) (d : List ℕ) (kept n from : ℕ) (p : List ℕ) (ps : List (List ℕ)) → length p < from + k → ((d₁ : List ℕ) (kept₁ n₁ : ℕ) → Runs d₁ kept₁ n₁ 0 ps)

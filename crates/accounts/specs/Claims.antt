@@ -7,7 +7,8 @@ use lib.ListN.{length}
 use Rattle.accounts.specs.Lines.{lines}
 use Rattle.accounts.specs.Listing.{header, rowText, largestLineNumber, rowsFrom, listing}
 use Rattle.accounts.specs.declared.line.Answer.{Answer}
-use Rattle.accounts.specs.Feeding.{mostKept, heldOf, Calls, concat, leftOf}
+use Rattle.accounts.specs.Feeding.{mostKept, heldOf, Calls, leftOf}
+use Rattle.text.specs.Text.{concat}
 
 -- however the input is cut: every run of calls
 pub record Listings : Type 0 where

@@ -6,7 +6,7 @@ use mathlib.Core.Bool.{cond}
 use mathlib.Core.List.{List, [], _∷_, _++_}
 use mathlib.Core.Path.{_≡_}
 use lib.ListN.{length, take, drop}
-use Rattle.text.specs.Text.{has, find, cut}
+use Rattle.text.specs.Text.{has, find, cut, concat}
 use Rattle.text.specs.Place.{Outcome, outcome, hasRoom, over, put}
 use Rattle.accounts.specs.Lines.{lastLine, lineAnswer}
 use Rattle.accounts.specs.Listing.{rowText, rowsFrom, nextLine}
@@ -78,11 +78,6 @@ pub data Calls : List ℕ → ℕ → ℕ → ℕ → List (List ℕ) → List �
       → Calls array more n 0 ps rest → Calls d kept n from (p ∷ ps) rest
   end : {d : List ℕ} {kept n : ℕ} (buffer : List ℕ) (at : ℕ) {count : ℕ} {left : List ℕ}
       → endPut d kept n buffer at ≡ outcome 0 count left → Calls d kept n 0 [] (take count (drop at left))
-
--- the parts joined
-abbrev pub concat : List (List ℕ) → List ℕ
-concat [] = []
-concat (p ∷ ps) = p ++ concat ps
 
 -- what is left of the input: the first part from a place on
 abbrev pub leftOf : ℕ → List (List ℕ) → List ℕ

@@ -15,7 +15,7 @@ ghost use lib.ListN.{length, take, drop};
 ghost use Rattle.text.specs.Place.{outcome, over};
 ghost use Rattle.accounts.specs.Lines.{lineAnswer};
 ghost use Rattle.accounts.specs.Listing.{rowText, nextLine};
-ghost use Rattle.accounts.specs.Feeding.{fed, rowFed, nextFed, endPut};
+ghost use Rattle.accounts.specs.Feeding.{mostKept, fed, rowFed, nextFed, endPut};
 ghost use Rattle.accounts.specs.FeedingSteps.{Held};
 
 // What a call gives.
@@ -94,14 +94,14 @@ fn judge_joined(begun: &[u8], more: &[u8]) -> Answer
             kind: 0,
         };
     }
-    let mut scratch = [0u8; 512];
+    let mut scratch = [0u8; LONGEST_LINE];
     judge_copied(begun, more, &mut scratch)
 }
 
 // Keeps as many bytes more, after the first `held`, as there is room for.
 fn keep(array: &mut [u8], held: usize, more: &[u8]) -> usize
-    requires { ⌜ (length (now array) ≡ 513) × (held ≤ 513) ⌝ }
-    ensures { λ r. ⌜ (r ≡ held + length (take (513 - held) (now (more .entry)))) × (now (array .exit) ≡ over (now (array .entry)) held (take (513 - held) (now (more .entry)))) ⌝ }
+    requires { ⌜ (length (now array) ≡ mostKept) × (held ≤ mostKept) ⌝ }
+    ensures { λ r. ⌜ (r ≡ held + length (take (mostKept - held) (now (more .entry)))) × (now (array .exit) ≡ over (now (array .entry)) held (take (mostKept - held) (now (more .entry)))) ⌝ }
 {
     let count = least(MOST_KEPT - held, more.len());
     write_text(&more[0..count], array, held);
@@ -133,7 +133,7 @@ fn next_in(
     buf: &mut [u8],
     at: usize,
 ) -> Listed
-    requires { ⌜ length (now array) ≡ 513 ⌝ }
+    requires { ⌜ length (now array) ≡ mostKept ⌝ }
     ensures { λ r. ⌜ fed r (now (array .exit)) (now (buf .exit)) ≡ nextFed (now (array .entry)) kept line (now (part .entry)) from (now (buf .entry)) at ⌝ }
 {
     let held = held_len(array, kept);
@@ -152,7 +152,7 @@ fn next_in(
 
 // The next row from a part of the input, from a place in it, into `buf` from `at` on. Begin with no byte kept and line 1.
 pub fn next(
-    array: &mut [u8; 513],
+    array: &mut [u8; MOST_KEPT],
     kept: usize,
     line: u64,
     part: &[u8],
@@ -176,7 +176,7 @@ fn end_in(array: &[u8], kept: usize, line: u64, buf: &mut [u8], at: usize) -> Wr
 }
 
 // The row of the last line at the end of the input, where it has any byte. 17: it doesn't fit.
-pub fn end(array: &[u8; 513], kept: usize, line: u64, buf: &mut [u8], at: usize) -> Written
+pub fn end(array: &[u8; MOST_KEPT], kept: usize, line: u64, buf: &mut [u8], at: usize) -> Written
     ensures { λ r. ⌜ outcome (r .number) (r .count .0) (now (buf .exit)) ≡ endPut (now (array .entry)) kept line (now (buf .entry)) at ⌝ }
 {
     end_in(array, kept, line, buf, at)

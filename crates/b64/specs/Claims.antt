@@ -7,7 +7,8 @@ use mathlib.Core.List.{List}
 use lib.ListN.{length}
 use Rattle.text.specs.Text.{all, isByte}
 use Rattle.b64.specs.Lengths.{bytesOf, charsOf}
-use Rattle.b64.specs.B64.{sextet, letter, inAlphabet, canonical, decode, encode}
+use Rattle.b64.specs.Table.{sextets}
+use Rattle.b64.specs.B64.{sextet, Sextets, letter, inAlphabet, canonical, decode, encode}
 
 pub record B64Claims : Type 0 where
   -- the two ways of the alphabet undo each other
@@ -21,3 +22,7 @@ pub record B64Claims : Type 0 where
   -- lengths, in the two units
   pub length-decode : (t : List ℕ) → length (decode t) ≡ bytesOf (length t)
   pub length-encode : (b : List ℕ) → length (encode b) ≡ charsOf (length b)
+
+-- the table SEXTETS holds the sextet of each byte
+pub record TableClaims : Type 0 where
+  pub sextets-rule : Sextets sextets

@@ -1,4 +1,5 @@
 pub mod Lengths
 pub mod B64
+pub mod Table
 pub mod B64Steps
 pub mod Claims

@@ -1,7 +1,7 @@
 -- Laws of unsigned decimals: the digits of a number are an unsigned decimal that says it, and the only one.
 -- Assumes nothing.
 use Prim.Native.Nat.{ℕ, zero, suc, _+_, _-_, _*_, _/_, _%_, _^_, _≤_, _<_}
-use mathlib.Core.Bool.{Bool, true, false, _&&_, and-assoc, false≢true}
+use mathlib.Core.Bool.{true, false, false≢true}
 use mathlib.Core.Path.{_≡_, refl, sym, ap}
 use mathlib.Core.Logic.{_⊎_, inl, inr, ⊎-elim}
 use mathlib.Core.List.{List, [], _∷_, _++_, append-nil, append-assoc}
@@ -11,9 +11,10 @@ use native.Mathlib.Decide.{decLt}
 use lib.Dec.{eqb}
 use lib.ListN.{length, length-append}
 use borrow.Author.Tests.{lt-ltb, le-ltb, ne-eqb, eqb-true, eqb-false}
-use Rattle.text.specs.Text.{all, empty}
+use Rattle.text.specs.Text.{all}
 use Rattle.decimal.specs.Decimal.{isDigit, isUnsigned, valueFrom, value, digitsWithin, digits}
 use Rattle.text.proofs.Tests.{both, either, from-within, to-within}
+use Rattle.text.proofs.Lists.{empty-nil, all-append}
 
 below? : (n m : ℕ) → (n < m) ⊎ (m ≤ n)
 below? n m = elim (decLt n m) [ yes h ↦ inl h | no h ↦ inr (omega arith) ]
@@ -95,19 +96,11 @@ pub digit-bounds : (c : ℕ) → isDigit c ≡ true → (48 ≤ c) × (c ≤ 57)
 unfolding isDigit
 digit-bounds c e = from-within 48 57 c e
 
-all-append : (f : ℕ → Bool) (s t : List ℕ) → all f (s ++ t) ≡ (all f s && all f t)
-all-append f [] t = refl
-all-append f (c ∷ s) t = rw (all-append f s t, and-assoc)
-
-empty-only : (s : List ℕ) → empty s ≡ true → s ≡ []
-empty-only [] p = refl
-empty-only (c ∷ s) p = absurd (false≢true p)
-
 pub unsigned-cases : (c : ℕ) (s : List ℕ) → isUnsigned (c ∷ s) ≡ true
     → ((c ≡ 48) × (s ≡ [])) ⊎ ((c ≡ 48 → ⊥) × (all isDigit (c ∷ s) ≡ true))
 unfolding isUnsigned
 unsigned-cases c s p =
-    ⊎-elim (λ e. inl (eqb-true c 48 e, empty-only s (rw e at p))) (λ e. inr (eqb-false c 48 e, rw e at p)) (either (eqb c 48))
+    ⊎-elim (λ e. inl (eqb-true c 48 e, empty-nil s (rw e at p))) (λ e. inr (eqb-false c 48 e, rw e at p)) (either (eqb c 48))
 
 unsigned-long : (c : ℕ) (s : List ℕ) → (c ≡ 48 → ⊥) → all isDigit (c ∷ s) ≡ true → isUnsigned (c ∷ s) ≡ true
 unfolding isUnsigned

@@ -2,15 +2,14 @@
 -- Assumes nothing.
 use Prim.Native.Nat.{ℕ, suc, _+_, _-_, _*_, _/_, _≤_, _<_}
 use mathlib.Core.Path.{_≡_, refl, ap, _∙_}
-use mathlib.Core.Bool.{Bool, true, false, cond}
+use mathlib.Core.Bool.{true, false}
 use mathlib.Core.List.{List, [], _∷_}
 use mathlib.Core.Option.{Option, none, some}
 use native.Mathlib.Omega.{arith}
-use lib.Dec.{eqb}
 use lib.ListN.{length, take, drop, getD, length-drop}
 use lib.Seq.{drop-drop}
 use borrow.Author.Tests.{le-leb, lt-leb, ne-eqb}
-use Rattle.text.specs.Text.{text, find, nextAt}
+use Rattle.text.specs.Text.{text, find, nextAt, startsWith}
 use Rattle.profile.specs.Limits.{Profile, limitsOf, inRange, idOf, profileOf}
 use Rattle.profile.specs.declared.limits.NumberRule.{NumberRule}
 use Rattle.profile.specs.declared.limits.BytesRule.{BytesRule}
@@ -18,7 +17,8 @@ use Rattle.profile.specs.declared.limits.Limits.{Limits}
 use Rattle.profile.specs.declared.fields.Version.{Version}
 use Rattle.profile.specs.declared.fields.Version.the-variants.{Absent, Number}
 use Rattle.profile.specs.declared.fields.Fields.{Fields}
-use Rattle.fast_path.specs.Walk.{starts, andThen, Taken, taken, numeralIn, isWritten, writtenNumber, leftOut, numberIn, writtenBytes, bytesIn, allowed, versionIn, numbersIn, headIn, withStrings, afterId, walked}
+use Rattle.fast_path.specs.Walk.{andThen, Taken, taken, numeralIn, isWritten, writtenNumber, leftOut, numberIn, writtenBytes, bytesIn, allowed, versionIn, numbersIn, headIn, withStrings, afterId, walked}
+use Rattle.text.proofs.Scanning.{find-le}
 
 -- what stands after a separator and a name
 rest-at : (s name : List ℕ) (at : ℕ) → drop (suc (length name)) (drop at s) ≡ drop (at + 1 + length name) s
@@ -39,39 +39,39 @@ module _ (r : NumberRule) (o : Option (ℕ × List ℕ)) (n : ℕ) (t : List ℕ
   number-written h w = rw (e, h, w)
 
 module _ (r : NumberRule) (name : List ℕ) (separator : ℕ) (s : List ℕ) (at : ℕ) where
-  pub number-there : starts (separator ∷ name) (drop at s) ≡ true
+  pub number-there : startsWith (separator ∷ name) (drop at s) ≡ true
       → numberIn r name separator (drop at s) ≡ andThen (numeralIn (drop (at + 1 + length name) s)) (writtenNumber r)
   unfolding numberIn
   number-there e = rw (e, rest-at s name at)
 
-  pub number-absent : starts (separator ∷ name) (drop at s) ≡ false → numberIn r name separator (drop at s) ≡ leftOut r separator (drop at s)
+  pub number-absent : startsWith (separator ∷ name) (drop at s) ≡ false → numberIn r name separator (drop at s) ≡ leftOut r separator (drop at s)
   unfolding numberIn
   number-absent e = rw e
 
 -- ---- a byte string
 
 module _ (r : BytesRule) (name : List ℕ) (separator : ℕ) (s : List ℕ) (at : ℕ) where
-  pub bytes-there : starts (separator ∷ name) (drop at s) ≡ true → bytesIn r name separator (drop at s) ≡ writtenBytes r (drop (at + 1 + length name) s)
+  pub bytes-there : startsWith (separator ∷ name) (drop at s) ≡ true → bytesIn r name separator (drop at s) ≡ writtenBytes r (drop (at + 1 + length name) s)
   unfolding bytesIn
   bytes-there e = rw (e, rest-at s name at)
 
-  pub bytes-absent : starts (separator ∷ name) (drop at s) ≡ false → bytesIn r name separator (drop at s) ≡ some (taken [] separator (drop at s))
+  pub bytes-absent : startsWith (separator ∷ name) (drop at s) ≡ false → bytesIn r name separator (drop at s) ≡ some (taken [] separator (drop at s))
   unfolding bytesIn
   bytes-absent e = rw e
 
 -- ---- the version
 
 module _ (r : Profile) (s : List ℕ) (at : ℕ) where
-  pub version-none : starts (text "$v=") (drop at s) ≡ true → numeralIn (drop (at + 3) s) ≡ none → versionIn r (drop at s) ≡ none
+  pub version-none : startsWith (text "$v=") (drop at s) ≡ true → numeralIn (drop (at + 3) s) ≡ none → versionIn r (drop at s) ≡ none
   unfolding versionIn
   version-none e q = rw (e, drop-drop 3 at s, q)
 
-  pub version-there : starts (text "$v=") (drop at s) ≡ true → (n : ℕ) (t : List ℕ) → numeralIn (drop (at + 3) s) ≡ some (n, t)
+  pub version-there : startsWith (text "$v=") (drop at s) ≡ true → (n : ℕ) (t : List ℕ) → numeralIn (drop (at + 3) s) ≡ some (n, t)
       → versionIn r (drop at s) ≡ allowed r (Number n) t
   unfolding versionIn
   version-there e n t q = rw (e, drop-drop 3 at s, q)
 
-  pub version-absent : starts (text "$v=") (drop at s) ≡ false → versionIn r (drop at s) ≡ allowed r Absent (drop at s)
+  pub version-absent : startsWith (text "$v=") (drop at s) ≡ false → versionIn r (drop at s) ≡ allowed r Absent (drop at s)
   unfolding versionIn
   version-absent e = rw e
 
@@ -139,16 +139,8 @@ unfolding walked
 walked-other e [] h n = refl
 walked-other e (c ∷ s) h n = rw (ne-eqb c 36 n)
 
-find-length : (d : ℕ) (t : List ℕ) → find d t ≤ length t
-find-length d [] = omega arith
-find-length d (c ∷ t) = go (eqb c d) (find-length d t)
-  where
-    go : (b : Bool) → find d t ≤ length t → cond b 0 (suc (find d t)) ≤ suc (length t)
-    go true h = omega arith
-    go false h = omega arith
-
 pub next-inside : (d : ℕ) (s : List ℕ) → (length s ≡ 0 → ⊥) → nextAt d s 1 ≤ length s
-next-inside d s h = omega (arith, find-length d (drop 1 s), length-drop 1 s)
+next-inside d s h = omega (arith, find-le d (drop 1 s), length-drop 1 s)
 
 pub walked-id : (e : List Profile) (s : List ℕ) (end : ℕ) → (length s ≡ 0 → ⊥) → getD s 0 0 ≡ 36 → end ≡ nextAt 36 s 1
     → walked e s ≡ afterId e (idOf e (take (end - 1) (drop 1 s))) (drop end s)

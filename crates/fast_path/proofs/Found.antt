@@ -1,29 +1,30 @@
 -- What the walk finds in a string is permitted, and is written to exactly that string, in every edition that passes the test `sound`.
 -- Assumes nothing.
 use Prim.Native.Nat.{ℕ, _*_, _≤_}
-use mathlib.Core.Bool.{true, false, not, _&&_, false≢true}
+use mathlib.Core.Bool.{true, false, not, _&&_}
 use mathlib.Core.List.{List, [], _∷_, _++_}
 use mathlib.Core.Option.{some}
 use mathlib.Core.Path.{_≡_, refl, sym, _∙_, ap, subst}
 use lib.Dec.{leb, eqb}
 use lib.ListN.{take, drop, take-append-drop}
 use borrow.Author.Tests.{leb-true}
-use Rattle.text.specs.Text.{text, all, empty, find, isByte}
+use Rattle.text.specs.Text.{text, all, empty, find, isByte, startsWith}
 use Rattle.profile.specs.Limits.{Profile, limitsOf, inRange, versionAllowed, idOf, profileOf}
 use Rattle.profile.specs.Fields.{FieldSet, fieldSet, writeBytes, writeVersion}
 use Rattle.profile.specs.Sound.{soundNumber, sound}
 use Rattle.profile.specs.Writer.{bytesAllowed, OfBytes, Permitted, formatted}
-use Rattle.profile.specs.WriterSteps.{tagged, piecesText}
+use Rattle.profile.specs.PieceTexts.{tagged, piecesText}
 use Rattle.profile.specs.declared.limits.Limits.{Limits}
 use Rattle.profile.specs.declared.fields.Version.{Version}
 use Rattle.profile.specs.declared.fields.Fields.{Fields}
 use Rattle.profile.proofs.Texts.{formatted-is}
 use Rattle.profile.proofs.Kept.{Kept, here, permitted-of}
 use Rattle.profile.proofs.Table.{Entry, entry-at, name-of}
-use Rattle.fast_path.specs.Walk.{starts, Taken, versionIn, numbersIn, Pair, pairIn, keysIn, hashesIn, headIn, afterId, walked}
-use Rattle.fast_path.proofs.Starts.{starts-is}
+use Rattle.fast_path.specs.Walk.{Taken, versionIn, numbersIn, Pair, pairIn, keysIn, hashesIn, headIn, afterId, walked}
+use Rattle.text.proofs.Starts.{starts-is}
 use Rattle.fast_path.proofs.ItemTexts.{items, Stands, stands-append, costItems, keyItems, fiveItems, hashesText, restText, pieces-row}
 use Rattle.fast_path.proofs.Stands.{Holds, holds-then, holds-map, holds-if, number-then, bytes-then, VersionStands, version-stands}
+use Rattle.text.proofs.Lists.{empty-nil}
 
 -- ---- the numbers, and the byte strings two by two
 
@@ -85,14 +86,9 @@ record HashesStand (l : Limits) (s : List ℕ) (x : Taken Pair) : Type 0 where
   order : (empty (x .found .first) && not (empty (x .found .second))) ≡ false
   stands : empty (x .rest) ≡ true → s ≡ hashesText (x .found .first) (x .found .second)
 
--- nothing is left
-nothing : (s : List ℕ) → empty s ≡ true → s ≡ []
-nothing [] e = refl
-nothing (c ∷ s) e = absurd (false≢true e)
-
 -- where there is no salt there is no `$`, so no output
 ordered : (salt output s rest : List ℕ) → s ≡ tagged (text "$") (writeBytes salt) ++ rest
-    → empty salt ≡ not (starts (text "$") s) → empty output ≡ not (starts (text "$") rest) → (empty salt && not (empty output)) ≡ false
+    → empty salt ≡ not (startsWith (text "$") s) → empty output ≡ not (startsWith (text "$") rest) → (empty salt && not (empty output)) ≡ false
 ordered [] output s rest e p q = rw (q, ← e, ← p)
 ordered (b ∷ salt) output s rest e p q = refl
 
@@ -110,7 +106,7 @@ hashes-stand l s =
       order = ordered (a .found) (o .found) s (a .rest) (ha .stands .here) (ha .nothing) (ho .nothing);
       stands = λ e.
           ha .stands .here ∙ ap (λ (x : List ℕ). tagged (text "$") (writeBytes (a .found)) ++ x)
-          (ho .stands .here ∙ ap (λ (x : List ℕ). tagged (text "$") (writeBytes (o .found)) ++ x) (nothing (o .rest) e));
+          (ho .stands .here ∙ ap (λ (x : List ℕ). tagged (text "$") (writeBytes (o .found)) ++ x) (empty-nil (o .rest) e));
     }))
 
 -- ---- the whole
@@ -187,7 +183,7 @@ module _ (e : List Profile) (ok : sound e ≡ true) where
   unfolding walked
   walked-stands s =
       let t = drop 1 s in
-      holds-if (Found e s) (starts (text "$") s) _ _
+      holds-if (Found e s) (startsWith (text "$") s) _ _
       (λ h. after-id-stands s (take (find 36 t) t) (drop (find 36 t) t)
       (starts-is (text "$") s h ∙ ap (λ (x : List ℕ). 36 ∷ x) (sym (take-append-drop (find 36 t) t))))
       (λ h. tt)

@@ -6,15 +6,15 @@ use mathlib.Core.List.{List, [], _∷_, _++_, append-nil, append-assoc}
 use mathlib.Core.Option.{none, some}
 use mathlib.Core.Path.{_≡_, refl, _∙_, ap}
 use lib.Dec.{eqb}
-use Rattle.text.specs.Text.{text, all, has}
+use Rattle.text.specs.Text.{text, all, has, startsWith}
 use Rattle.grammar.specs.Pieces.{Slot}
 use Rattle.text.proofs.Tests.{both, is-false}
 use Rattle.profile.specs.Fields.{FieldSet, writeNumber, writeBytes, writeVersion}
-use Rattle.profile.specs.WriterSteps.{tagged, itemsText, dollared, piecesText}
+use Rattle.profile.specs.PieceTexts.{tagged, itemsText, dollared, piecesText}
 use Rattle.profile.specs.declared.fields.Fields.{Fields}
 use Rattle.profile.specs.declared.limits.Limits.{Limits}
-use Rattle.fast_path.specs.Walk.{starts}
-use Rattle.fast_path.proofs.Starts.{starts-without, Begins, Separator, Closed}
+use Rattle.text.proofs.Starts.{starts-without, Begins}
+use Rattle.fast_path.proofs.Closed.{Separator, Closed}
 
 -- a name with its equals sign, and the text that stands behind it
 abbrev pub Named : Type 0
@@ -104,7 +104,7 @@ differ [] b = false
 differ (c ∷ a) [] = false
 differ (c ∷ a) (d ∷ b) = not (eqb d c)
 
-starts-differ : (a b t : List ℕ) → differ a b ≡ true → starts a (b ++ t) ≡ false
+starts-differ : (a b t : List ℕ) → differ a b ≡ true → startsWith a (b ++ t) ≡ false
 starts-differ [] b t e = absurd (false≢true e)
 starts-differ (c ∷ a) [] t e = absurd (false≢true e)
 starts-differ (c ∷ a) (d ∷ b) t e = rw (is-false (eqb d c) e)
@@ -122,18 +122,18 @@ pub closed-items : (separator : ℕ) (l : List Named) (rest : List ℕ) → Sepa
 closed-items separator l rest m h = begins-items Separator separator l rest m (h .closed)
 
 -- the items and such a text begin with no separator and fresh name
-pub starts-fresh : (a b : ℕ) (name : List ℕ) (l : List Named) (rest : List ℕ) → Behind rest → fresh name l ≡ true → starts (a ∷ name) (items b l rest) ≡ false
+pub starts-fresh : (a b : ℕ) (name : List ℕ) (l : List Named) (rest : List ℕ) → Behind rest → fresh name l ≡ true → startsWith (a ∷ name) (items b l rest) ≡ false
 starts-fresh a b name l rest h e = go l (q .1)
   where
     q : (has 61 name ≡ true) × (all (λ (i : Named). differ name (i .0)) l ≡ true)
     q = both (has 61 name) (all (λ (i : Named). differ name (i .0)) l) e
 
-    one : (n : List ℕ) (s : Slot) (l : List Named) → differ name n ≡ true → starts (a ∷ name) (items b l rest) ≡ false
-        → starts (a ∷ name) (tagged (b ∷ n) s ++ items (separatorAfter b s) l rest) ≡ false
+    one : (n : List ℕ) (s : Slot) (l : List Named) → differ name n ≡ true → startsWith (a ∷ name) (items b l rest) ≡ false
+        → startsWith (a ∷ name) (tagged (b ∷ n) s ++ items (separatorAfter b s) l rest) ≡ false
     one n none l d k = k
     one n (some t) l d k = rw (append-assoc n t (items 44 l rest), starts-differ name n (t ++ items 44 l rest) d) (and-false (eqb b a))
 
-    go : (l : List Named) → all (λ (i : Named). differ name (i .0)) l ≡ true → starts (a ∷ name) (items b l rest) ≡ false
+    go : (l : List Named) → all (λ (i : Named). differ name (i .0)) l ≡ true → startsWith (a ∷ name) (items b l rest) ≡ false
     go [] d = starts-without 61 (a ∷ name) rest (rw (q .0, or-true)) (h .plain)
     go (i ∷ l) d = let p = both (differ name (i .0)) (all (λ (i : Named). differ name (i .0)) l) d in one (i .0) (i .1) l (p .0) (go l (p .1))
 

@@ -1,9 +1,8 @@
-pub mod Runs
 pub mod Numerals
 pub mod Chains
 pub mod StringLaws
 pub mod RunLaws
-pub mod Starts
+pub mod Closed
 pub mod ItemTexts
 pub mod Stands
 pub mod Taken

@@ -17,7 +17,7 @@ use Rattle.decimal.proofs.DigitSteps.{unsigned-none, unsigned-zero, unsigned-ot
 use Rattle.profile.specs.Limits.{largest32}
 use Rattle.fast_path.specs.Walk.{numeralIn}
 use Rattle.fast_path.specs.WalkSteps.{digitsAt, Counted}
-use Rattle.fast_path.proofs.Runs.{run-go, run-stop, run-past, run-all, run-length, run-first}
+use Rattle.text.proofs.Runs.{run-go, run-stop, run-past, run-all, run-length, run-first}
 
 no-digit : isDigit 0 ≡ false
 unfolding isDigit

@@ -19,7 +19,7 @@ use Rattle.b64.proofs.B64Code.{group-past, group-bits}
 use Rattle.fast_path.specs.WalkSteps.{three, two, one, textAt, bytesAt, Reached, Stopped, Ran, RunIs}
 use Rattle.fast_path.specs.declared.run.Run.{Run}
 use Rattle.fast_path.specs.declared.run.Run.the-variants.{No, To}
-use Rattle.fast_path.proofs.Runs.{run-go, run-stop, run-length}
+use Rattle.text.proofs.Runs.{run-go, run-stop, run-length}
 
 -- ---- stores, one after the other
 

@@ -9,7 +9,7 @@ use native.Mathlib.Omega.{arith}
 use lib.Dec.{leb, eqb}
 use lib.ListN.{length, drop}
 use borrow.Author.Tests.{eq-eqb}
-use Rattle.text.specs.Text.{text, within, all, empty, isByte}
+use Rattle.text.specs.Text.{text, within, all, empty, isByte, run, startsWith}
 use Rattle.decimal.specs.Decimal.{isDigit, isUnsigned, value, digits}
 use Rattle.b64.specs.B64.{inAlphabet, canonical, decode, encode}
 use Rattle.text.proofs.Tests.{both, is-false, to-within}
@@ -19,14 +19,15 @@ use Rattle.profile.specs.Limits.{Profile, inRange, isSize, versionAllowed, larg
 use Rattle.profile.specs.Fields.{writeNumber, writeBytes, writeVersion}
 use Rattle.profile.specs.Sound.{soundNumber}
 use Rattle.profile.specs.Writer.{bytesAllowed}
-use Rattle.profile.specs.WriterSteps.{tagged}
+use Rattle.profile.specs.PieceTexts.{tagged}
 use Rattle.profile.specs.declared.limits.NumberRule.{NumberRule}
 use Rattle.profile.specs.declared.limits.NumberRule.the-variants.{Needed, Omitted, Fixed}
 use Rattle.profile.specs.declared.limits.BytesRule.{BytesRule}
 use Rattle.profile.specs.declared.fields.Version.{Version}
 use Rattle.profile.specs.declared.fields.Version.the-variants.{Absent, Number}
-use Rattle.fast_path.specs.Walk.{run, starts, andThen, Taken, numeralIn, isWritten, writtenNumber, leftOut, numberIn, bytesIn, allowed, versionIn}
-use Rattle.fast_path.proofs.Starts.{starts-is, run-is}
+use Rattle.fast_path.specs.Walk.{andThen, Taken, numeralIn, isWritten, writtenNumber, leftOut, numberIn, bytesIn, allowed, versionIn}
+use Rattle.text.proofs.Runs.{run-is}
+use Rattle.text.proofs.Starts.{starts-is}
 use Rattle.fast_path.proofs.ItemTexts.{Stands}
 
 -- ---- a fact of what is found, where something is
@@ -59,7 +60,7 @@ numeral-stands t =
     (λ h. tt)
 
 -- behind a text that begins with l
-behind : (l t u rest : List ℕ) → starts l t ≡ true → drop (length l) t ≡ u ++ rest → t ≡ (l ++ u) ++ rest
+behind : (l t u rest : List ℕ) → startsWith l t ≡ true → drop (length l) t ≡ u ++ rest → t ≡ (l ++ u) ++ rest
 behind l t u rest e h = starts-is l t e ∙ ap (λ (x : List ℕ). l ++ x) h ∙ sym (append-assoc l u rest)
 
 written-slot : (r : NumberRule) (n : ℕ) → isWritten r n ≡ true → writeNumber r n ≡ some (digits n)
@@ -81,7 +82,7 @@ number-stands : (r : NumberRule) → soundNumber r ≡ true → (name : List ℕ
 unfolding numberIn
 number-stands r k name separator t =
     let u = drop (suc (length name)) t in
-    holds-if _ (starts (separator ∷ name) t) _ _
+    holds-if _ (startsWith (separator ∷ name) t) _ _
     (λ s. holds-then (λ (y : ℕ × List ℕ). u ≡ digits (y .0) ++ y .1) _ (numeralIn u) (writtenNumber r) (numeral-stands u) (λ y h.
     holds-if _ (inRange r (y .0) && isWritten r (y .0)) _ _
     (λ e. let q = both (inRange r (y .0)) (isWritten r (y .0)) e in
@@ -101,7 +102,7 @@ pub record BytesStand (r : BytesRule) (name : List ℕ) (separator : ℕ) (t : L
   pub bytes : all isByte (x .found) ≡ true
   pub stands : Stands separator ((name, writeBytes (x .found)) ∷ []) t (x .separator) (x .rest)
   -- there are none where the separator and the name don't stand there
-  pub nothing : empty (x .found) ≡ not (starts (separator ∷ name) t)
+  pub nothing : empty (x .found) ≡ not (startsWith (separator ∷ name) t)
 
 filled-slot : (bs : List ℕ) → not (empty bs) ≡ true → writeBytes bs ≡ some (encode bs)
 filled-slot [] e = absurd (false≢true e)
@@ -113,7 +114,7 @@ bytes-stand r name separator t =
     let v = drop (suc (length name)) t in
     let u = run inAlphabet v in
     let bs = decode u in
-    holds-if _ (starts (separator ∷ name) t) _ _
+    holds-if _ (startsWith (separator ∷ name) t) _ _
     (λ s. holds-if _ (canonical u && (not (empty bs) && isSize r (length bs))) _ _
     (λ e. let p = both (canonical u) (not (empty bs) && isSize r (length bs)) e in
     let q = both (not (empty bs)) (isSize r (length bs)) (p .1) in
@@ -142,7 +143,7 @@ pub version-stands : (r : Profile) (t : List ℕ) → Holds (VersionStands r t) 
 unfolding versionIn
 version-stands r t =
     let u = drop 3 t in
-    holds-if _ (starts (text "$v=") t) _ _
+    holds-if _ (startsWith (text "$v=") t) _ _
     (λ s. holds-then (λ (y : ℕ × List ℕ). u ≡ digits (y .0) ++ y .1) _ (numeralIn u) (λ (y : ℕ × List ℕ). allowed r (Number (y .0)) (y .1)) (numeral-stands u) (λ y h.
     holds-if _ (versionAllowed r (Number (y .0))) _ _ (λ e. (e, behind (text "$v=") t (digits (y .0)) (y .1) s h)) (λ e. tt)))
     (λ s. holds-if _ (versionAllowed r Absent) _ _ (λ e. (e, refl)) (λ e. tt))

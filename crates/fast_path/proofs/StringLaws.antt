@@ -10,7 +10,7 @@ use lib.Dec.{leb}
 use lib.ListN.{length, drop, length-drop, length-append}
 use lib.Seq.{drop-drop, drop-length}
 use borrow.Author.Tests.{lt-leb}
-use Rattle.text.specs.Text.{empty}
+use Rattle.text.specs.Text.{empty, startsWith}
 use Rattle.b64.specs.B64.{inAlphabet, canonical}
 use Rattle.text.specs.Place.{over}
 use Rattle.text.proofs.Tests.{from-within}
@@ -21,12 +21,13 @@ use Rattle.profile.specs.declared.limits.BytesRule.{BytesRule}
 use Rattle.profile.specs.declared.limits.BytesRule.the-variants.{Sized, Barred}
 use Rattle.profile.specs.declared.limits.Limits.{Limits}
 use Rattle.profile.specs.declared.fields.Fields.{Fields}
-use Rattle.profile.specs.declared.fields.Contents.{Contents}
-use Rattle.fast_path.specs.Walk.{starts, Taken, taken, writtenBytes, bytesIn, Pair, pairIn, keysIn, hashesIn, withStrings}
+use Rattle.fast_path.specs.declared.contents.Contents.{Contents}
+use Rattle.fast_path.specs.Walk.{Taken, taken, writtenBytes, bytesIn, Pair, pairIn, keysIn, hashesIn, withStrings}
 use Rattle.fast_path.specs.WalkSteps.{textAt, bytesAt, Ran, most, Stored, StoredTwo, contentsFor, roomy, StoredAll}
 use Rattle.fast_path.specs.Claims.{mostBytes}
-use Rattle.fast_path.proofs.Runs.{run-length}
+use Rattle.text.proofs.Runs.{run-length}
 use Rattle.fast_path.proofs.Chains.{bytes-absent}
+use Rattle.text.proofs.Lists.{length-empty, length-filled}
 
 -- ---- one byte string
 
@@ -37,14 +38,6 @@ small Barred n e = let z : _≡_ {A = ℕ} 0 1 = cc in absurd (omega arith)
 large : (r : BytesRule) (n : ℕ) → most r < n → isSize r n ≡ false
 large (Sized low high) n h = rw (lt-leb n (high .0) h) (and-false (leb (low .0) n))
 large Barred n h = refl
-
-none-empty : (l : List ℕ) → length l ≡ 0 → empty l ≡ true
-none-empty [] h = refl
-none-empty (x ∷ l) h = absurd (omega arith)
-
-some-empty : (l : List ℕ) → (length l ≡ 0 → ⊥) → empty l ≡ false
-some-empty [] h = absurd (h refl)
-some-empty (x ∷ l) h = refl
 
 module _ (r : BytesRule) (s : List ℕ) (at : ℕ) (out₀ : List ℕ) (from : ℕ) where
   -- the run is no text of so few bytes
@@ -66,7 +59,7 @@ module _ (r : BytesRule) (s : List ℕ) (at : ℕ) (out₀ : List ℕ) (from : �
     pub bytes-empty : end - from ≡ 0 → writtenBytes r (drop at s) ≡ none
     bytes-empty z =
         let l : length (bytesAt s at) ≡ 0 = omega (arith, k .end-is) in
-        rw (k .canonical-is, none-empty (bytesAt s at) l)
+        rw (k .canonical-is, length-empty (bytesAt s at) l)
 
     pub bytes-unsized : isSize r (end - from) ≡ false → writtenBytes r (drop at s) ≡ none
     bytes-unsized z =
@@ -79,7 +72,7 @@ module _ (r : BytesRule) (s : List ℕ) (at : ℕ) (out₀ : List ℕ) (from : �
         let q : isSize r (length (bytesAt s at)) ≡ true = rw l at e in
         record {
           bytes = bytesAt s at;
-          found = rw (k .canonical-is, some-empty (bytesAt s at) (λ y. z (omega arith)), q, k .next-is, drop-drop);
+          found = rw (k .canonical-is, length-filled (bytesAt s at) (λ y. z (omega arith)), q, k .next-is, drop-drop);
           inside = omega (arith, k .next-is, run-length inAlphabet (drop at s), length-drop at s);
           small = small r (length (bytesAt s at)) q;
           end-is = k .end-is;
@@ -99,7 +92,7 @@ stored-two-size o high s out₀ from out next middle end x h =
 
 -- none stands there
 pub bytes-none : (r : BytesRule) (name : List ℕ) (separator : ℕ) (s : List ℕ) (at : ℕ) (out : List ℕ) (from : ℕ) → at ≤ length s
-    → starts (separator ∷ name) (drop at s) ≡ false → Stored (bytesIn r name separator (drop at s)) (most r) s out from out at from separator
+    → startsWith (separator ∷ name) (drop at s) ≡ false → Stored (bytesIn r name separator (drop at s)) (most r) s out from out at from separator
 bytes-none r name separator s at out from h e =
     record {
       bytes = [];
@@ -160,7 +153,7 @@ module _ (l : Limits) (f : Fields) (separator : ℕ) (s : List ℕ) (at : ℕ) (
       ordered = (omega (arith, x .end-is), omega (arith, y .middle-is), omega (arith, y .end-is))
 
       pub text-left : (last ≡ length s → ⊥) → withStrings l (taken f separator (drop at s)) ≡ none
-      text-left h = rw (x .found, y .found, some-empty (drop last s) (λ z. h (omega (arith, length-drop last s, y .inside))))
+      text-left h = rw (x .found, y .found, length-filled (drop last s) (λ z. h (omega (arith, length-drop last s, y .inside))))
 
       pub all-strings : roomy l ≤ length out₀ → last ≡ length s → (c : Contents) → c ≡ contentsFor f k (d - k) (e - d) (g - e)
           → StoredAll (withStrings l (taken f separator (drop at s))) out₀ out₂ c

@@ -1,41 +1,43 @@
 -- What the writer puts is taken: each text is read back as what it is written for, and the rest is left.
 -- Assumes nothing.
 use Prim.Native.Nat.{ℕ, _≤_}
-use mathlib.Core.Bool.{Bool, true, false, cond, true≢false}
+use mathlib.Core.Bool.{Bool, true, false, cond}
 use mathlib.Core.List.{List, [], _∷_, _++_, append-assoc}
 use mathlib.Core.Logic.{⊎-elim}
 use mathlib.Core.Option.{Option, none, some}
-use mathlib.Core.Path.{_≡_, refl, sym, _∙_}
+use mathlib.Core.Path.{_≡_, refl, _∙_}
 use native.Mathlib.Omega.{arith}
 use lib.Dec.{leb, eqb}
 use lib.ListN.{length, drop}
 use lib.Seq.{drop-at}
 use borrow.Author.Tests.{eqb-true, leb-true, le-leb}
-use Rattle.text.specs.Text.{text, within, all, has, empty, isByte}
+use Rattle.text.specs.Text.{text, within, all, empty, isByte, run, startsWith}
 use Rattle.decimal.specs.Decimal.{isDigit, isUnsigned, digits}
 use Rattle.b64.specs.B64.{sextet, inAlphabet, encode}
 use Rattle.grammar.specs.Limits.{largestVersion}
-use Rattle.text.proofs.Tests.{both, either, from-within}
-use Rattle.text.proofs.Lists.{not-in}
+use Rattle.text.proofs.Tests.{both, from-within}
+use Rattle.text.proofs.Lists.{all-has}
 use Rattle.decimal.proofs.DecimalLaws.{unsigned-cases, value-digits, digits-unsigned}
 use Rattle.b64.proofs.B64Laws.{canonical-alphabet, decode-encode, canonical-encode}
 use Rattle.profile.specs.Limits.{Profile, inRange, versionAllowed, largest32}
 use Rattle.profile.specs.Fields.{writeNumber, writeBytes, writeVersion}
 use Rattle.profile.specs.Sound.{soundNumber, soundVersions}
 use Rattle.profile.specs.Writer.{bytesAllowed}
-use Rattle.profile.specs.WriterSteps.{tagged}
+use Rattle.profile.specs.PieceTexts.{tagged}
 use Rattle.profile.specs.declared.limits.NumberRule.{NumberRule}
 use Rattle.profile.specs.declared.limits.NumberRule.the-variants.{Needed, Omitted, Fixed}
 use Rattle.profile.specs.declared.limits.BytesRule.{BytesRule}
 use Rattle.profile.specs.declared.fields.Version.{Version}
 use Rattle.profile.specs.declared.fields.Version.the-variants.{Absent, Number}
-use Rattle.fast_path.specs.Walk.{run, starts, andThen, taken, numeralIn, isWritten, writtenNumber, leftOut, numberIn, writtenBytes, bytesIn, allowed, versionIn}
-use Rattle.fast_path.proofs.Starts.{starts-own, run-on, Separator, Closed, run-closed}
+use Rattle.fast_path.specs.Walk.{andThen, taken, numeralIn, isWritten, writtenNumber, leftOut, numberIn, writtenBytes, bytesIn, allowed, versionIn}
+use Rattle.text.proofs.Runs.{run-on}
+use Rattle.text.proofs.Starts.{starts-own}
+use Rattle.fast_path.proofs.Closed.{Separator, Closed, run-closed}
 use Rattle.fast_path.proofs.ItemTexts.{Named, separatorAfter, items, separator-after, fresh, Behind, closed-items, starts-fresh}
 
 -- what stands behind its tag is read there
 behind-tag : {A : Type 0} (tag t rest : List ℕ) (read : List ℕ → Option A) (left : Option A)
-    → cond (starts tag ((tag ++ t) ++ rest)) (read (drop (length tag) ((tag ++ t) ++ rest))) left ≡ read (t ++ rest)
+    → cond (startsWith tag ((tag ++ t) ++ rest)) (read (drop (length tag) ((tag ++ t) ++ rest))) left ≡ read (t ++ rest)
 behind-tag tag t rest read left = rw (append-assoc tag t rest, starts-own tag (t ++ rest), drop-at tag (t ++ rest) (length tag) refl)
 
 -- ---- one number
@@ -63,7 +65,7 @@ number-there r n name separator rest l e w h =
     ∙ rw (numeral-reads n rest l h, e, w)
 
 number-reads : (r : NumberRule) (n : ℕ) (name : List ℕ) (separator : ℕ) (rest : List ℕ) → soundNumber r ≡ true → inRange r n ≡ true
-    → Closed rest → starts (separator ∷ name) rest ≡ false
+    → Closed rest → startsWith (separator ∷ name) rest ≡ false
     → numberIn r name separator (tagged (separator ∷ name) (writeNumber r n) ++ rest) ≡ some (taken n (separatorAfter separator (writeNumber r n)) rest)
 unfolding numberIn
 number-reads (Needed low high) n name separator rest k e h f =
@@ -95,7 +97,7 @@ unfolding sextet
 encode-run bs rest a h = run-on inAlphabet (encode bs) rest (encode-alphabet bs a) (run-closed inAlphabet refl refl rest h)
 
 pub bytes-reads : (r : BytesRule) (bs name : List ℕ) (separator : ℕ) (rest : List ℕ) → bytesAllowed r bs ≡ true → all isByte bs ≡ true
-    → Closed rest → (empty bs ≡ true → starts (separator ∷ name) rest ≡ false)
+    → Closed rest → (empty bs ≡ true → startsWith (separator ∷ name) rest ≡ false)
     → bytesIn r name separator (tagged (separator ∷ name) (writeBytes bs) ++ rest) ≡ some (taken bs (separatorAfter separator (writeBytes bs)) rest)
 unfolding bytesIn
 bytes-reads r [] name separator rest p a h f = rw (f refl)
@@ -106,17 +108,13 @@ bytes-reads r (b ∷ bs) name separator rest p a h f =
 
 -- ---- the version
 
--- an element of a list passes what all do
-one-of-all : (f : ℕ → Bool) (n : ℕ) (l : List ℕ) → all f l ≡ true → has n l ≡ true → f n ≡ true
-one-of-all f n l a h = ⊎-elim (λ p. p) (λ q. absurd (true≢false (sym h ∙ not-in f n q l a))) (either (f n))
-
 pub version-reads : (r : Profile) (v : Version) (rest : List ℕ) → soundVersions (r .versions) ≡ true → versionAllowed r v ≡ true
-    → Closed rest → starts (text "$v=") rest ≡ false
+    → Closed rest → startsWith (text "$v=") rest ≡ false
     → versionIn r (tagged (text "$") (writeVersion v) ++ rest) ≡ some (taken v 36 rest)
 unfolding versionIn
 version-reads r Absent rest k e h f = rw (f, e)
 version-reads r (Number n) rest k e h f =
-    let w = from-within 0 largestVersion n (one-of-all (within 0 largestVersion) n (r .versions) k e) in
+    let w = from-within 0 largestVersion n (all-has (within 0 largestVersion) n (r .versions) k e) in
     let l : n ≤ largest32 = omega arith in
     behind-tag (text "$v=") (digits n) rest (λ (u : List ℕ). andThen (numeralIn u) (λ (x : ℕ × List ℕ). allowed r (Number (x .0)) (x .1))) (allowed r Absent ((text "$v=" ++ digits n) ++ rest))
     ∙ rw (numeral-reads n rest l h, e)

@@ -9,7 +9,7 @@ use lib.Dec.{eqb}
 use lib.ListN.{length}
 use lib.Seq.{take-at, drop-at}
 use borrow.Author.Tests.{le-leb, eqb-true, eq-eqb}
-use Rattle.text.specs.Text.{text, all, has, empty, isByte}
+use Rattle.text.specs.Text.{text, all, has, empty, isByte, startsWith}
 use Rattle.grammar.specs.Bytes.{isNameByte, isValueByte}
 use Rattle.b64.specs.B64.{sextet, inAlphabet, encode}
 use Rattle.text.proofs.Lists.{not-in, has-append}
@@ -19,15 +19,16 @@ use Rattle.profile.specs.Fields.{FieldSet, writeNumber, writeBytes, writeVersio
 use Rattle.profile.specs.Reader.{answer, fieldsOf}
 use Rattle.profile.specs.Sound.{sound}
 use Rattle.profile.specs.Writer.{Permitted, formatted}
-use Rattle.profile.specs.WriterSteps.{tagged}
+use Rattle.profile.specs.PieceTexts.{tagged}
 use Rattle.profile.specs.declared.limits.Limits.{Limits}
 use Rattle.profile.proofs.Texts.{formatted-is}
 use Rattle.profile.proofs.Kept.{here}
 use Rattle.profile.proofs.Table.{Entry, entry-at, known-id}
 use Rattle.profile.proofs.Written.{written}
 use Rattle.profile.proofs.Accepted.{accepted}
-use Rattle.fast_path.specs.Walk.{starts, taken, versionIn, numbersIn, pairIn, keysIn, hashesIn, headIn, afterId, walked, WalkAgrees}
-use Rattle.fast_path.proofs.Starts.{Begins, Separator, find-behind}
+use Rattle.fast_path.specs.Walk.{taken, versionIn, numbersIn, pairIn, keysIn, hashesIn, headIn, afterId, walked, WalkAgrees}
+use Rattle.text.proofs.Starts.{Begins, find-behind}
+use Rattle.fast_path.proofs.Closed.{Separator}
 use Rattle.fast_path.proofs.ItemTexts.{Named, separatorAfter, items, separators, begins-tagged, begins-items, separator-after, separators-separator, Behind, closed-items, starts-fresh, costItems, keyItems, fiveItems, hashesText, restText, pieces-row}
 use Rattle.fast_path.proofs.Taken.{encode-alphabet, bytes-reads, version-reads, number-item, bytes-item}
 use Rattle.fast_path.proofs.Found.{walk-sound}
@@ -46,7 +47,7 @@ dollar f p q = p
 
 -- without a salt there is no output, so no `$`
 no-dollar : (salt output : List ℕ) → (empty salt && not (empty output)) ≡ false → empty salt ≡ true
-    → starts (text "$") (tagged (text "$") (writeBytes output) ++ []) ≡ false
+    → startsWith (text "$") (tagged (text "$") (writeBytes output) ++ []) ≡ false
 no-dollar [] [] h e = refl
 no-dollar [] (b ∷ output) h e = absurd (true≢false h)
 no-dollar (b ∷ salt) output h e = absurd (false≢true e)

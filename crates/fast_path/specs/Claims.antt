@@ -6,7 +6,7 @@ use mathlib.Core.List.{List}
 use lib.ListN.{length}
 use Rattle.profile.specs.Limits.{editionTwo}
 use Rattle.profile.specs.Reader.{answer, fieldsOf}
-use Rattle.profile.specs.Entries.{joinedBytes}
+use Rattle.fast_path.specs.Contents.{joinedBytes}
 use Rattle.fast_path.specs.Walk.{WalkAgrees}
 
 -- the most bytes that keyid, data, salt and output have together: 8, 32, 48 and 64

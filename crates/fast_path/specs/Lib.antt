@@ -1,3 +1,4 @@
+pub mod Contents
 pub mod Walk
 pub mod WalkSteps
 pub mod Claims

@@ -8,7 +8,7 @@ use mathlib.Core.List.{List, [], _∷_}
 use mathlib.Core.Option.{Option, none, some}
 use lib.Dec.{leb, eqb}
 use lib.ListN.{length, take, drop}
-use Rattle.text.specs.Text.{text, empty, find}
+use Rattle.text.specs.Text.{text, empty, find, run, startsWith}
 use Rattle.decimal.specs.Decimal.{isDigit, isUnsigned, value}
 use Rattle.b64.specs.B64.{inAlphabet, canonical, decode}
 use Rattle.profile.specs.Limits.{Profile, limitsOf, inRange, isSize, versionAllowed, idOf, profileOf, largest32}
@@ -21,17 +21,6 @@ use Rattle.profile.specs.declared.limits.Limits.{Limits}
 use Rattle.profile.specs.declared.fields.Version.{Version}
 use Rattle.profile.specs.declared.fields.Version.the-variants.{Absent, Number}
 use Rattle.profile.specs.declared.fields.Fields.{Fields}
-
--- the elements of a class at the start of a text
-abbrev pub run : (ℕ → Bool) → List ℕ → List ℕ
-run f [] = []
-run f (c ∷ s) = cond (f c) (c ∷ run f s) []
-
--- the second text begins with the first
-abbrev pub starts : List ℕ → List ℕ → Bool
-starts [] t = true
-starts (c ∷ l) [] = false
-starts (c ∷ l) (d ∷ t) = eqb d c && starts l t
 
 abbrev pub andThen : {A B : Type 0} → Option A → (A → Option B) → Option B
 andThen none f = none
@@ -69,7 +58,7 @@ leftOut (Fixed given) separator t = some (taken given separator t)
 -- a number after its separator and its name, or left out
 unfoldable pub numberIn : NumberRule → List ℕ → ℕ → List ℕ → Option (Taken ℕ)
 numberIn r name separator t =
-    cond (starts (separator ∷ name) t) (andThen (numeralIn (drop (suc (length name)) t)) (writtenNumber r)) (leftOut r separator t)
+    cond (startsWith (separator ∷ name) t) (andThen (numeralIn (drop (suc (length name)) t)) (writtenNumber r)) (leftOut r separator t)
 
 -- ---- one byte string
 
@@ -82,7 +71,7 @@ writtenBytes r t =
 -- a byte string after its separator and its name, or none
 unfoldable pub bytesIn : BytesRule → List ℕ → ℕ → List ℕ → Option (Taken (List ℕ))
 bytesIn r name separator t =
-    cond (starts (separator ∷ name) t) (writtenBytes r (drop (suc (length name)) t)) (some (taken [] separator t))
+    cond (startsWith (separator ∷ name) t) (writtenBytes r (drop (suc (length name)) t)) (some (taken [] separator t))
 
 -- ---- the version
 
@@ -91,7 +80,7 @@ allowed r v t = cond (versionAllowed r v) (some (taken v 36 t)) none
 
 unfoldable pub versionIn : Profile → List ℕ → Option (Taken Version)
 versionIn r t =
-    cond (starts (text "$v=") t) (andThen (numeralIn (drop 3 t)) (λ (x : ℕ × List ℕ). allowed r (Number (x .0)) (x .1))) (allowed r Absent t)
+    cond (startsWith (text "$v=") t) (andThen (numeralIn (drop 3 t)) (λ (x : ℕ × List ℕ). allowed r (Number (x .0)) (x .1))) (allowed r Absent t)
 
 -- ---- m, t and p, and m at least 8p
 
@@ -143,7 +132,7 @@ afterId e k s = cond (eqb k 0) none (andThen (headIn e k s) (withStrings (limits
 unfoldable pub walked : List Profile → List ℕ → Option FieldSet
 walked e s =
     let t = drop 1 s in
-    cond (starts (text "$") s) (afterId e (idOf e (take (find 36 t) t)) (drop (find 36 t) t)) none
+    cond (startsWith (text "$") s) (afterId e (idOf e (take (find 36 t) t)) (drop (find 36 t) t)) none
 
 -- the walk finds the fields of each accepted string, and nothing in any other
 abbrev pub WalkAgrees : List Profile → Type 0

@@ -3,11 +3,11 @@ ghost use Prim.Native.Nat.{_≤_};
 ghost use mathlib.Core.Path.{_≡_};
 ghost use mathlib.Core.List.{_∷_};
 ghost use lib.ListN.{length, drop};
-ghost use Rattle.fast_path.specs.Walk.{starts};
+ghost use Rattle.text.specs.Text.{startsWith};
 
 fn same_at(s: &[u8], at: usize, name: &[u8]) -> bool
     requires { ⌜ at ≤ length (now s) ⌝ }
-    ensures { λ r. ⌜ r ≡ starts (now (name .entry)) (drop at (now (s .entry))) ⌝ }
+    ensures { λ r. ⌜ r ≡ startsWith (now (name .entry)) (drop at (now (s .entry))) ⌝ }
 {
     if s.len() - at < name.len() {
         return false;
@@ -23,7 +23,7 @@ fn same_at(s: &[u8], at: usize, name: &[u8]) -> bool
 }
 
 pub fn begins(s: &[u8], at: usize, separator: u8, name: &[u8]) -> bool
-    ensures { λ r. ⌜ r ≡ starts (separator ∷ now (name .entry)) (drop at (now (s .entry))) ⌝ }
+    ensures { λ r. ⌜ r ≡ startsWith (separator ∷ now (name .entry)) (drop at (now (s .entry))) ⌝ }
 {
     if s.len() <= at {
         return false;

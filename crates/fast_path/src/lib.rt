@@ -1,6 +1,7 @@
 // The fast path: a good string is read in one walk, from its first byte to its last; any other goes to the profile's reader. The contracts
 // are the profile's own.
 mod begin;
+pub mod contents;
 mod items;
 mod numeral;
 pub mod reader;

@@ -1,9 +1,9 @@
 // The profile reader, and all that a string carries in one call: the fast path for good strings, the profile's reader for the others.
+use crate::contents::Contents;
 use crate::walk::BUFFER_LEN;
 use crate::walk::Walk;
 use crate::walk::walk_string;
 use b64::alphabet::SEXTETS;
-use profile::fields::Contents;
 use profile::fields::Fields;
 use profile::fields::Reading;
 use profile::fields::Version;
@@ -13,7 +13,8 @@ ghost use Prim.Native.Nat.{_≤_};
 ghost use mathlib.Core.Path.{_≡_};
 ghost use lib.ListN.{length};
 ghost use Rattle.profile.specs.Limits.{editionTwo};
-ghost use Rattle.profile.specs.Entries.{reading, refusedContents, allDecoded, contents};
+ghost use Rattle.profile.specs.Entries.{reading};
+ghost use Rattle.fast_path.specs.Contents.{refusedContents, allDecoded, contents};
 ghost use Rattle.fast_path.specs.Walk.{walked};
 ghost use Rattle.fast_path.specs.WalkSteps.{bufferLength, FoundIn, total, StoredIs};
 

@@ -1,12 +1,12 @@
 // The whole walk: id, version, numbers, byte strings.
 use crate::begin::begins;
+use crate::contents::Contents;
 use crate::items::NumberItem;
 use crate::items::number_item;
 use crate::numeral::Numeral;
 use crate::numeral::number;
 use crate::strings::Two;
 use crate::strings::two_items;
-use profile::fields::Contents;
 use profile::fields::Fields;
 use profile::fields::Reading;
 use profile::fields::Version;

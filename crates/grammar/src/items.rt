@@ -7,9 +7,8 @@ use crate::names::is_name;
 use text::scan::next_at;
 use text::scan::same_text;
 ghost use mathlib.Core.Path.{_≡_};
-ghost use mathlib.Core.List.{[]};
-ghost use lib.ListN.{length, getD};
-ghost use Rattle.text.specs.Text.{parts, cut};
+ghost use lib.ListN.{length};
+ghost use Rattle.text.specs.Text.{cut};
 ghost use Rattle.grammar.specs.Items.{items};
 ghost use Rattle.grammar.specs.Rules.{isItem, isParams};
 
@@ -77,21 +76,4 @@ pub fn item_count(params: &[u8]) -> usize
         at = end + 1;
     }
     n
-}
-
-// The text of the item at an index; empty past the last.
-pub fn nth_item(params: &[u8], index: usize) -> &[u8]
-    ensures { λ r. ⌜ now r ≡ getD (parts 44 (now (params .entry))) index [] ⌝ }
-{
-    let mut k = index;
-    let mut at = 0;
-    while at <= params.len() {
-        let end = next_at(params, at, b',');
-        if k == 0 {
-            return &params[at..end];
-        }
-        k -= 1;
-        at = end + 1;
-    }
-    &params[0..0]
 }

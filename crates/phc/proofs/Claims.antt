@@ -11,14 +11,15 @@ use Rattle.text.specs.Place.{putAfter}
 use Rattle.profile.specs.Limits.{profileOf, editionTwo, versionAllowed}
 use Rattle.profile.specs.Reader.{answer, fieldsOf}
 use Rattle.profile.specs.Writer.{refusal}
-use Rattle.profile.specs.Entries.{reading, joinedBytes}
+use Rattle.profile.specs.Entries.{reading}
+use Rattle.fast_path.specs.Contents.{joinedBytes}
 use Rattle.profile.specs.declared.fields.Version.the-variants.{Number}
 use Rattle.profile.proofs.ReadLaws.{reading-number}
 use Rattle.fast_path.specs.Claims.{mostBytes}
 use Rattle.fast_path.proofs.Claims.{fast-path-agrees}
 use Rattle.phc.specs.Records.{wholeLength, recordedWhole}
 use Rattle.phc.specs.Writing.{handed}
-use Rattle.phc.specs.Claims.{ExportsClaims}
+use Rattle.phc.specs.Claims.{PhcClaims}
 use Rattle.phc.proofs.WholeLaws.{number-left, fits-number}
 
 -- no profile permits the version 0
@@ -50,5 +51,5 @@ whole-number s «record» buffer h k =
     ∙ number-left (answer editionTwo s) buffer (joinedBytes (fieldsOf editionTwo s)) (λ z. omega (arith, fast-path-agrees .room s z))
     ∙ sym (reading-number editionTwo s)
 
-pub exports-claims : ExportsClaims
-exports-claims = record { enough = whole-number; flag = flag-refused }
+pub phc-claims : PhcClaims
+phc-claims = record { enough = whole-number; flag = flag-refused }

@@ -12,9 +12,10 @@ use Rattle.text.specs.Place.{Outcome, over, putAfter}
 use Rattle.text.proofs.Writing.{put-refused, put-clear, put-full, put-done, after-zero, after-done}
 use Rattle.profile.specs.Limits.{editionTwo}
 use Rattle.profile.specs.Reader.{answer, fieldsOf}
-use Rattle.profile.specs.Entries.{reading, joinedBytes, counted, refusedContents, allDecoded, contents}
+use Rattle.profile.specs.Entries.{reading}
+use Rattle.fast_path.specs.Contents.{joinedBytes, counted, refusedContents, allDecoded, contents}
 use Rattle.profile.proofs.ReadLaws.{reading-number}
-use Rattle.profile.specs.declared.fields.Contents.{Contents}
+use Rattle.fast_path.specs.declared.contents.Contents.{Contents}
 use Rattle.phc.specs.Records.{recordBytes, countBytes, wholeLength, whole, recordedWhole}
 
 -- the number, where the bytes fit

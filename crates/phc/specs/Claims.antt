@@ -12,7 +12,7 @@ use Rattle.fast_path.specs.Claims.{mostBytes}
 use Rattle.phc.specs.Records.{wholeLength, recordedWhole}
 use Rattle.phc.specs.Writing.{handed}
 
-pub record ExportsClaims : Type 0 where
+pub record PhcClaims : Type 0 where
   -- a record of 36 bytes and a buffer of 152 are enough for every string: the number is the reader's
   pub enough : (s «record» buffer : List ℕ) → wholeLength ≤ length «record» → mostBytes ≤ length buffer
       → recordedWhole s «record» buffer .number ≡ reading editionTwo s .number

@@ -1,6 +1,6 @@
 // A record as bytes: kind, id, 1 where a version is written, 0, then version, m, t and p as 32-bit little-endian numbers; and the counts of the
 // four byte strings after it.
-use profile::fields::Contents;
+use fast_path::contents::Contents;
 use profile::fields::Reading;
 use profile::fields::Version;
 use text::place::write_text;

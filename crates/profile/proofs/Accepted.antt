@@ -2,7 +2,7 @@
 -- test `sound`.
 -- Assumes nothing.
 use Prim.Native.Nat.{ℕ}
-use mathlib.Core.Bool.{Bool, true, false, not, cond, _&&_, false≢true}
+use mathlib.Core.Bool.{Bool, true, false, not, cond, _&&_}
 use mathlib.Core.List.{List, [], _∷_, _++_}
 use mathlib.Core.Option.{Option, none, some}
 use mathlib.Core.Path.{_≡_, refl, sym, _∙_, ap}
@@ -34,6 +34,7 @@ use Rattle.profile.proofs.Slots.{list-slots}
 use Rattle.profile.specs.Sound.{sound}
 use Rattle.profile.proofs.Table.{entry-at, name-of}
 use Rattle.profile.proofs.Written.{Goods, After}
+use Rattle.text.proofs.Lists.{empty-nil}
 
 -- ---- what the sorting tells
 
@@ -83,10 +84,6 @@ params-all (some s) e =
     let q = both (leb (length (items s)) mostItems) (all isItem (items s)) (is-true (isParams s) e) in
     (q .1, params-items s (q .1))
 
-nothing : {A : Type 0} (l : List A) → empty l ≡ true → l ≡ []
-nothing [] e = refl
-nothing (x ∷ l) e = absurd (false≢true e)
-
 -- an output is canonical by the grammar, and of a permitted size by the profile
 output-bytes : (r : BytesRule) (s : Slot) → broken isOutput s ≡ false → broken (isSized r) s ≡ false → (broken isValue s ≡ false) × (broken (isBytes r) s ≡ false)
 unfolding isOutput isText
@@ -133,12 +130,12 @@ module _ (e : List Profile) (ok : sound e ≡ true) where
       let salt = bytes-back (r .salt) (p .salt) g5 r14 in
       let o = output-bytes (r .output) (p .output) g6 r15 in
       let output = bytes-back (r .output) (p .output) (o .0) (o .1) in
-      let left = nothing (strangers names is) (is-true (empty (strangers names is)) (s10 .0)) in
+      let left = empty-nil (strangers names is) (is-true (empty (strangers names is)) (s10 .0)) in
       let same-slots : fieldSlots r (carried e p) ≡ vs = λ i. m .1 i ∷ t .1 i ∷ l .1 i ∷ keyid .1 i ∷ ad .1 i ∷ [] in
       let same-params : paramsText (itemList names (fieldSlots r (carried e p))) ≡ p .params =
       ap (λ (x : List Slot). paramsText (itemList names x)) same-slots ∙ ap paramsText (list-slots names is left) ∙ P .1 in
       let same-version = version-back (p .version) v g3 in
-      let same-more = sym (nothing (p .more) (is-true (empty (p .more)) g7)) in (
+      let same-more = sym (empty-nil (p .more) (is-true (empty (p .more)) g7)) in (
         record {
           id = N .1;
           version = is-true (versionAllowed r (readVersion (p .version))) r9;

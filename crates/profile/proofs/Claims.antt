@@ -10,7 +10,7 @@ use lib.ListN.{length, take, drop, replicate, length-append}
 use borrow.Author.Tests.{leb-true, le-leb, lt-leb}
 use Rattle.text.specs.Place.{Outcome, outcome, over}
 use Rattle.grammar.specs.Pieces.{Pieces, pieces}
-use Rattle.text.proofs.Tests.{from-within}
+use Rattle.text.proofs.Tests.{from-within, implied}
 use Rattle.text.proofs.Writing.{over-back, after-zero, after-done}
 use Rattle.profile.specs.Limits.{Profile, lowest, highest, profileOf, editionTwo, room}
 use Rattle.profile.specs.Fields.{FieldSet, chosen, writeBytes}
@@ -22,8 +22,9 @@ use Rattle.profile.specs.declared.fields.ByteString.{ByteString}
 use Rattle.profile.specs.declared.fields.ByteString.the-variants.{Keyid, Data, Salt, Output}
 use Rattle.profile.specs.declared.fields.Reading.{Reading}
 use Rattle.profile.proofs.ReadLaws.{reading-number}
-use Rattle.profile.specs.Sound.{every, sound}
-use Rattle.profile.proofs.Table.{at-id, implied, edition-two-sound}
+use Rattle.profile.specs.Sound.{sound}
+use Rattle.text.specs.Text.{every}
+use Rattle.profile.proofs.Table.{at-id, edition-two-sound}
 use Rattle.profile.proofs.Written.{pieces-of, written}
 use Rattle.profile.proofs.Accepted.{accepted}
 use Rattle.profile.proofs.Demand3.{not-refused, permitted, same-string, same-fields, refused-exactly}

@@ -1,7 +1,7 @@
 -- One number, one byte string and the version: what is read back from what is written, and the other way round.
 -- Assumes nothing.
 use Prim.Native.Nat.{ℕ, suc, _+_, _/_, _%_, _≤_}
-use mathlib.Core.Bool.{Bool, true, false, cond, _||_, or-true, true≢false, false≢true}
+use mathlib.Core.Bool.{Bool, true, false, cond, or-true, true≢false, false≢true}
 use mathlib.Core.List.{List, [], _∷_}
 use mathlib.Core.Option.{none, some}
 use mathlib.Core.Path.{_≡_, refl, sym, _∙_, ap}
@@ -9,7 +9,7 @@ use native.Mathlib.Omega.{arith}
 use lib.Dec.{leb, eqb}
 use lib.ListN.{length}
 use borrow.Author.Tests.{eqb-true, eq-eqb, leb-true}
-use Rattle.text.specs.Text.{within, all, has, empty, broken, isByte}
+use Rattle.text.specs.Text.{within, all, empty, broken, isByte}
 use Rattle.grammar.specs.Bytes.{isValueByte, isText}
 use Rattle.b64.specs.Lengths.{charsOf}
 use Rattle.grammar.specs.Limits.{longestValue, largestVersion}
@@ -21,7 +21,7 @@ use Rattle.grammar.specs.Rules.{isValue, isVersion, isOutput}
 use Rattle.decimal.specs.declared.reader.Limited.{Limited}
 use Rattle.decimal.specs.declared.reader.Limited.the-variants.{Malformed, Outside, Value}
 use Rattle.text.proofs.Tests.{both, and-true, not-of-true, is-true, from-within, to-within}
-use Rattle.text.proofs.Lists.{all-append}
+use Rattle.text.proofs.Lists.{all-append, all-has}
 use Rattle.decimal.proofs.DecimalLaws.{by-tens, digits-small, digits-step, length-pos, length-digits}
 use Rattle.decimal.proofs.NumeralLaws.{limited-digits, digits-limited}
 use Rattle.b64.proofs.B64Laws.{encode-decode, decode-encode, canonical-encode, bytes-decode, length-encode}
@@ -63,7 +63,7 @@ digits-values =
     by-tens (λ n. all isValueByte (digits n) ≡ true)
     (λ n h. rw (digits-small n h) (and-true (digit-value (48 + n) (omega arith) (omega arith)) refl))
     (λ n h e. rw (digits-step n h)
-    (all-append isValueByte (digits (n / 10)) ((48 + n % 10) ∷ []) e (and-true (digit-value (48 + n % 10) (omega arith) (omega arith)) refl)))
+    (all-append isValueByte (digits (n / 10)) ((48 + n % 10) ∷ []) ∙ and-true e (and-true (digit-value (48 + n % 10) (omega arith) (omega arith)) refl)))
 
 -- the text of a number of 32 bits is a value
 digits-good : (n : ℕ) → n ≤ largest32 → isValue (digits n) ≡ true
@@ -199,17 +199,9 @@ pub record VersionWritten (v : Version) (s : Slot) : Type 0 where
   pub version : broken isVersion s ≡ false
   pub reads : readVersion s ≡ v
 
-member-all : (f : ℕ → Bool) (n : ℕ) (l : List ℕ) → all f l ≡ true → has n l ≡ true → f n ≡ true
-member-all f n [] a h = absurd (false≢true h)
-member-all f n (c ∷ l) a h = go (eqb c n) refl h (member-all f n l (both (f c) (all f l) a .1))
-  where
-    go : (b : Bool) → eqb c n ≡ b → (b || has n l) ≡ true → (has n l ≡ true → f n ≡ true) → f n ≡ true
-    go true q h k = ap f (sym (eqb-true c n q)) ∙ both (f c) (all f l) a .0
-    go false q h k = k h
-
 pub version-forth : (r : Profile) (v : Version) → soundVersions (r .versions) ≡ true → versionAllowed r v ≡ true → VersionWritten v (writeVersion v)
 unfolding isVersion
 version-forth r Absent k e = record { piece = refl; version = refl; reads = refl }
 version-forth r (Number n) k e =
-    let q = limited-forth 0 largestVersion n (member-all (within 0 largestVersion) n (r .versions) k e) in
+    let q = limited-forth 0 largestVersion n (all-has (within 0 largestVersion) n (r .versions) k e) in
     record { piece = refl; version = rw q; reads = rw q }

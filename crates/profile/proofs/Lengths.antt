@@ -9,7 +9,7 @@ use native.Mathlib.Omega.{arith}
 use lib.Dec.{leb, eqb}
 use lib.ListN.{length}
 use borrow.Author.Tests.{leb-true, eqb-true}
-use Rattle.text.specs.Text.{has, empty}
+use Rattle.text.specs.Text.{has, empty, every}
 use Rattle.b64.specs.Lengths.{charsOf}
 use Rattle.decimal.specs.Decimal.{digitsWithin, digits}
 use Rattle.grammar.specs.Limits.{longestString}
@@ -26,12 +26,11 @@ use Rattle.profile.specs.Limits.{Profile, inRange, versionAllowed, editi
 use Rattle.profile.specs.Fields.{FieldSet, writeNumber, writeBytes, writeVersion}
 use Rattle.profile.specs.Reader.{answer}
 use Rattle.profile.specs.Writer.{bytesAllowed, formatted}
-use Rattle.profile.specs.WriterSteps.{taggedLength}
+use Rattle.profile.specs.PieceTexts.{taggedLength}
 use Rattle.profile.specs.Entries.{reading, refusedReading, decoded}
 use Rattle.profile.specs.declared.fields.ByteString.{ByteString}
 use Rattle.profile.specs.declared.fields.Version.{Version}
 use Rattle.profile.specs.declared.fields.Version.the-variants.{Absent, Number}
-use Rattle.profile.specs.Sound.{every}
 use Rattle.profile.proofs.Table.{at-id}
 use Rattle.profile.proofs.Kept.{Kept, here}
 use Rattle.profile.proofs.Texts.{formatted-length}

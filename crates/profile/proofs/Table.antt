@@ -1,37 +1,33 @@
 -- The ids of an edition: the number of an id text and the entry at a number; and what the tests of specs/Sound.antt say of an entry.
 -- Assumes nothing.
-use Prim.Native.Nat.{ℕ, zero, suc, _+_, _*_, _≤_}
-use mathlib.Core.Bool.{Bool, true, false, not, cond, _&&_, _||_, true≢false, false≢true}
+use Prim.Native.Nat.{ℕ, zero, suc, _*_, _≤_, _<_}
+use mathlib.Core.Bool.{Bool, true, false, cond, _&&_, true≢false, false≢true}
 use mathlib.Core.List.{List, [], _∷_}
-use mathlib.Core.Path.{_≡_, refl, sym, _∙_, subst}
+use mathlib.Core.Path.{_≡_, refl, sym, subst}
 use native.Mathlib.Omega.{arith}
-use native.Mathlib.Nat.{add-zero, add-suc, suc-add}
 use lib.Dec.{leb, eqb, eqb·suc-zero}
-use lib.ListN.{getD}
+use lib.ListN.{getD, length}
 use borrow.Author.Tests.{eqb-true, leb-true}
-use Rattle.text.specs.Text.{same}
+use Rattle.text.specs.Text.{same, every}
 use Rattle.grammar.specs.Bytes.{isNameByte, isText}
 use Rattle.grammar.specs.Rules.{isName}
-use Rattle.text.proofs.Tests.{both}
+use Rattle.text.proofs.Tests.{both, implied}
 use Rattle.text.proofs.Lists.{same-eq}
 use Rattle.profile.specs.Limits.{Profile, inRange, versionAllowed, next, idOf, nobody, profileOf, editionTwo}
-use Rattle.profile.specs.Sound.{every, soundNumber, soundBytes, soundVersions, soundAt, sound, usualAt, usualSound}
+use Rattle.profile.specs.Sound.{soundNumber, soundBytes, soundVersions, soundAt, sound, usualAt, usualSound}
+use Rattle.text.proofs.Table.{every-at}
 
 -- ---- a test on each entry
 
-from : (f : ℕ → Profile → Bool) (rs : List Profile) (j : ℕ) → every f j rs ≡ true → (k : ℕ) → getD rs k nobody .known ≡ true → f (j + k) (getD rs k nobody) ≡ true
-from f [] j t k h = absurd (false≢true h)
-from f (r ∷ rs) j t zero h = subst (λ (i : ℕ). f i r ≡ true) (sym (add-zero j)) (both (f j r) (every f (suc j) rs) t .0)
-from f (r ∷ rs) j t (suc k) h =
-    subst (λ (i : ℕ). f i (getD rs k nobody) ≡ true) (suc-add j k ∙ sym (add-suc j k)) (from f rs (suc j) (both (f j r) (every f (suc j) rs) t .1) k h)
+-- only an entry of the table is known
+known-inside : (rs : List Profile) (k : ℕ) → getD rs k nobody .known ≡ true → k < length rs
+known-inside [] k h = absurd (false≢true h)
+known-inside (r ∷ rs) zero h = omega arith
+known-inside (r ∷ rs) (suc k) h = let q = known-inside rs k h in omega arith
 
 pub at-id : (f : ℕ → Profile → Bool) (e : List Profile) → every f 1 e ≡ true → (k : ℕ) → profileOf e k .known ≡ true → f k (profileOf e k) ≡ true
 at-id f e t zero h = absurd (false≢true h)
-at-id f e t (suc k) h = subst (λ (i : ℕ). f i (getD e k nobody) ≡ true) (omega arith) (from f e 1 t k h)
-
-pub implied : (a b : Bool) → (not a || b) ≡ true → a ≡ true → b ≡ true
-implied true b h e = h
-implied false b h e = absurd (false≢true e)
+at-id f e t (suc k) h = subst (λ (i : ℕ). f i (getD e k nobody) ≡ true) (omega arith) (every-at f nobody e 1 t k (known-inside e k h))
 
 -- ---- the tests of an edition
 

@@ -6,25 +6,18 @@ use mathlib.Core.Option.{none, some}
 use mathlib.Core.Path.{_≡_, refl, sym, _∙_, ap}
 use native.Mathlib.Omega.{arith}
 use lib.ListN.{length, length-append}
-use Rattle.text.specs.Text.{text, join, listOf}
+use Rattle.text.specs.Text.{text, listOf}
 use Rattle.grammar.specs.Pieces.{Slot}
 use Rattle.grammar.specs.Items.{Item, itemText, paramsText}
 use Rattle.profile.specs.Limits.{Profile, limitsOf, profileOf}
 use Rattle.profile.specs.Fields.{FieldSet, writeNumber, writeBytes, writeVersion}
 use Rattle.profile.specs.Reader.{names}
 use Rattle.profile.specs.Writer.{item, itemList, fieldSlots, fieldPieces, formatted}
-use Rattle.profile.specs.WriterSteps.{tagged, taggedLength, itemsText, dollared, piecesText, piecesLength}
+use Rattle.profile.specs.PieceTexts.{tagged, taggedLength, itemsText, dollared, piecesText, piecesLength}
 use Rattle.profile.specs.declared.limits.Limits.{Limits}
+use Rattle.text.proofs.Joining.{marked, join-marked, append-five, length-five}
 
--- ---- parts, each with a separator before it
-
-abbrev marked : ℕ → List (List ℕ) → List ℕ
-marked d [] = []
-marked d (q ∷ qs) = d ∷ (q ++ marked d qs)
-
-join-marked : (d : ℕ) (p : List ℕ) (qs : List (List ℕ)) → join d p qs ≡ p ++ marked d qs
-join-marked d p [] = sym (append-nil p)
-join-marked d p (q ∷ qs) = ap (λ (l : List ℕ). p ++ d ∷ l) (join-marked d q qs)
+-- ---- tagged texts, each with a separator before it
 
 slot-marked : (s : Slot) (l : List (List ℕ)) → marked 36 (listOf s ++ l) ≡ tagged (text "$") s ++ marked 36 l
 slot-marked none l = refl
@@ -42,14 +35,6 @@ params-marked (i ∷ is) = ap (λ (l : List ℕ). 36 ∷ l) (join-marked 44 (ite
 
 -- ---- the items and the pieces
 
-five : (a b c d e : List ℕ) → a ++ (b ++ (c ++ (d ++ e))) ≡ a ++ b ++ c ++ d ++ e
-five a b c d e =
-    sym (append-assoc a b (c ++ (d ++ e))) ∙ sym (append-assoc (a ++ b) c (d ++ e)) ∙ sym (append-assoc (a ++ b ++ c) d e)
-
-length-five : (a b c d e : List ℕ) → length (a ++ b ++ c ++ d ++ e) ≡ length a + length b + length c + length d + length e
-length-five a b c d e =
-    omega (arith, length-append (a ++ b ++ c ++ d) e, length-append (a ++ b ++ c) d, length-append (a ++ b) c, length-append a b)
-
 items-are : (r : Profile) (f : FieldSet) → marked 44 (map itemText (itemList names (fieldSlots r f))) ≡ itemsText (limitsOf r) (f .numbers) (f .keyid) (f .ad)
 items-are r f =
     let n = f .numbers in
@@ -64,7 +49,7 @@ items-are r f =
       item-marked (text "keyid") (writeBytes (f .keyid)) ad,
       item-marked (text "data") (writeBytes (f .ad)) [],
       append-nil,
-    ) (five (tagged (text ",m=") (writeNumber (r .m) (n .m))) (tagged (text ",t=") (writeNumber (r .t) (n .t))) (tagged (text ",p=") (writeNumber (r .p) (n .p))) (tagged (text ",keyid=") (writeBytes (f .keyid))) (tagged (text ",data=") (writeBytes (f .ad))))
+    ) (append-five (tagged (text ",m=") (writeNumber (r .m) (n .m))) (tagged (text ",t=") (writeNumber (r .t) (n .t))) (tagged (text ",p=") (writeNumber (r .p) (n .p))) (tagged (text ",keyid=") (writeBytes (f .keyid))) (tagged (text ",data=") (writeBytes (f .ad))))
 
 pub formatted-is : (e : List Profile) (f : FieldSet) → formatted e f ≡ piecesText (limitsOf (profileOf e (f .numbers .id))) (profileOf e (f .numbers .id) .name) f
 unfolding formatted fieldPieces
@@ -83,7 +68,7 @@ formatted-is e f =
       params-marked (itemList names (fieldSlots r f)),
       items-are r f,
       append-nil (tagged (text "$") (writeBytes (f .output))),
-    ) (five (36 ∷ r .name) (tagged (text "$") (writeVersion (f .numbers .version))) (dollared (itemsText (limitsOf r) (f .numbers) (f .keyid) (f .ad))) (tagged (text "$") (writeBytes (f .salt))) (tagged (text "$") (writeBytes (f .output))))
+    ) (append-five (36 ∷ r .name) (tagged (text "$") (writeVersion (f .numbers .version))) (dollared (itemsText (limitsOf r) (f .numbers) (f .keyid) (f .ad))) (tagged (text "$") (writeBytes (f .salt))) (tagged (text "$") (writeBytes (f .output))))
 
 -- ---- lengths
 

@@ -1,30 +1,29 @@
 -- What the writer's steps need beyond texts put one after the other: the `$` of the parameters, byte strings by their lengths, and the
 -- whole string.
 -- Assumes nothing.
-use Prim.Native.Nat.{ℕ, _+_, _-_, _≤_}
-use mathlib.Core.Bool.{true, false, not, _&&_}
+use Prim.Native.Nat.{ℕ, _-_, _≤_}
+use mathlib.Core.Bool.{true, false, not, _&&_, Bool}
 use mathlib.Core.List.{List, [], _∷_}
 use mathlib.Core.Option.{some}
 use mathlib.Core.Path.{_≡_, refl, sym, _∙_, ap}
 use native.Mathlib.Omega.{arith}
-use borrow.Author.Tests.{leb-true, leb-false}
-use borrow.Rule.Slice.PartMut.{putMid}
-use lib.ListN.{length, take, drop, set}
+use lib.ListN.{length, set}
 use Rattle.text.specs.Text.{empty}
 use Rattle.b64.specs.B64.{encode}
-use Rattle.text.specs.Place.{outcome, refused, hasRoom, over, Wrote}
-use Rattle.text.proofs.Writing.{put-done, put-full, put-clear, tail-over}
-use Rattle.text.proofs.Over.{over-start}
+use Rattle.text.specs.Place.{hasRoom, Wrote, put}
+use Rattle.text.proofs.Writing.{put-clear}
 use Rattle.profile.specs.Limits.{isSize, limitsOf, editionTwo, room}
 use Rattle.profile.specs.Fields.{FieldSet, writeBytes}
 use Rattle.profile.specs.Writer.{bytesAllowed, refusal, formatted}
 use Rattle.profile.specs.Entries.{writing}
-use Rattle.profile.specs.WriterSteps.{dollared, piecesText, piecesLength}
+use Rattle.profile.specs.PieceTexts.{dollared, piecesText, piecesLength}
 use Rattle.profile.specs.declared.limits.BytesRule.{BytesRule}
 use Rattle.profile.specs.declared.limits.Limits.{Limits}
 use Rattle.profile.proofs.Kept.{here, kept}
 use Rattle.profile.proofs.Texts.{formatted-is, formatted-length}
 use Rattle.profile.proofs.Lengths.{most-room}
+use Rattle.text.proofs.Lists.{length-filled}
+use Rattle.text.proofs.Writers.{Asked}
 
 -- ---- a `$` in place of the first comma
 
@@ -38,17 +37,9 @@ wrote-dollar d d₁ (c ∷ s) n z w = record { count-is = w .count-is; left = ap
 
 -- ---- byte strings by their lengths
 
-pub no-bytes : (bs : List ℕ) → length bs ≡ 0 → bs ≡ []
-no-bytes [] e = refl
-no-bytes (b ∷ bs) e = absurd (omega arith)
-
-pub not-empty : (bs : List ℕ) → (length bs ≡ 0 → ⊥) → empty bs ≡ false
-not-empty [] n = absurd (n refl)
-not-empty (b ∷ bs) n = refl
-
 -- row 16, by the lengths
 pub unsalted : (salt output : List ℕ) → length salt ≡ 0 → (length output ≡ 0 → ⊥) → (empty salt && not (empty output)) ≡ true
-unsalted [] output z n = rw (not-empty output n)
+unsalted [] output z n = rw (length-filled output n)
 unsalted (b ∷ bs) output z n = absurd (omega arith)
 
 pub no-output : (salt output : List ℕ) → length output ≡ 0 → (empty salt && not (empty output)) ≡ false
@@ -68,7 +59,7 @@ sized-allowed r (b ∷ bs) n = refl
 -- ---- the whole string, with the limits l of its id; no row applies
 
 module _ (f : FieldSet) (l : Limits) (q : l ≡ limitsOf (here editionTwo f)) (z : refusal editionTwo f ≡ 0) where
-  text-by : formatted editionTwo f ≡ piecesText l (here editionTwo f .name) f
+  pub text-by : formatted editionTwo f ≡ piecesText l (here editionTwo f .name) f
   text-by = formatted-is editionTwo f ∙ ap (λ (k : Limits). piecesText k (here editionTwo f .name) f) (sym q)
 
   length-by : length (formatted editionTwo f) ≡ piecesLength l (length (here editionTwo f .name)) f
@@ -77,24 +68,11 @@ module _ (f : FieldSet) (l : Limits) (q : l ≡ limitsOf (here editionTwo f)) (z
   pub fits-room : piecesLength l (length (here editionTwo f .name)) f ≤ room
   fits-room = omega (arith, length-by, most-room f (kept editionTwo f z))
 
-  module _ (buf : List ℕ) (at count : ℕ) (k : count ≡ piecesLength l (length (here editionTwo f .name)) f) where
-    pub write-full : hasRoom (length buf) at count ≡ false → refused 17 buf ≡ writing editionTwo f buf at
-    unfolding writing
-    write-full h =
-        put-full buf at (formatted editionTwo f) (omega (arith, length-by, leb-false (at + count) (length buf) h))
-        ∙ sym (put-clear buf at (formatted editionTwo f) (refusal editionTwo f) z)
+  -- the room is asked for by the length that the limits say
+  pub string-asked : (buf : List ℕ) (at count : ℕ) → count ≡ piecesLength l (length (here editionTwo f .name)) f → (b : Bool) → b ≡ hasRoom (length buf) at count
+      → Asked buf at (formatted editionTwo f) count b
+  string-asked buf at count k b r = record { counted = k ∙ sym length-by; answered = r }
 
-    pub room-text : hasRoom (length buf) at count ≡ true → at + length (piecesText l (here editionTwo f .name) f) ≤ length buf
-    room-text h = omega (arith, ap length text-by, length-by, leb-true (at + count) (length buf) h)
-
-    pub write-done : hasRoom (length buf) at count ≡ true → (ys : List ℕ) (n : ℕ)
-        → Wrote (piecesText l (here editionTwo f .name) f) (take (length buf - at) (drop at buf)) ys n
-        → outcome 0 count (putMid at (length buf - at) buf ys) ≡ writing editionTwo f buf at
-    unfolding writing
-    write-done h ys n w =
-        let t = formatted editionTwo f in
-        let r : at + length t ≤ length buf = omega (arith, length-by, leb-true (at + count) (length buf) h) in
-        let e : ys ≡ over (take (length buf - at) (drop at buf)) 0 t = w .left ∙ ap (over (take (length buf - at) (drop at buf)) 0) (sym text-by) in
-        put-done buf at t r count (k ∙ sym length-by) (putMid at (length buf - at) buf ys)
-        (tail-over buf t ys at r (e ∙ over-start (take (length buf - at) (drop at buf)) t))
-        ∙ sym (put-clear buf at t (refusal editionTwo f) z)
+  pub writing-clear : (buf : List ℕ) (at : ℕ) → writing editionTwo f buf at ≡ put buf at (formatted editionTwo f)
+  unfolding writing
+  writing-clear buf at = put-clear buf at (formatted editionTwo f) (refusal editionTwo f) z

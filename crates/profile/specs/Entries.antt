@@ -2,10 +2,9 @@
 -- Assumes nothing.
 use Prim.Native.Nat.{ℕ}
 use mathlib.Core.Bool.{cond}
-use mathlib.Core.List.{List, _++_}
+use mathlib.Core.List.{List}
 use mathlib.Core.Option.{none, some}
 use lib.Dec.{eqb}
-use lib.ListN.{length}
 use Rattle.text.specs.Place.{Outcome, putAfter}
 use Rattle.grammar.specs.Pieces.{Slot, pieces}
 use Rattle.profile.specs.Limits.{Profile, profileOf}
@@ -18,7 +17,6 @@ use Rattle.profile.specs.declared.fields.Fields.{Fields}
 use Rattle.profile.specs.declared.fields.ByteString.{ByteString}
 use Rattle.profile.specs.declared.fields.Reading.{Reading}
 use Rattle.profile.specs.declared.fields.Meaning.{Meaning}
-use Rattle.profile.specs.declared.fields.Contents.{Contents}
 
 -- ---- the profile reader
 
@@ -65,38 +63,3 @@ writing e f buffer at = putAfter (refusal e f) buffer at (formatted e f)
 
 unfoldable pub shortWriting : List Profile → ℕ → List ℕ → List ℕ → List ℕ → ℕ → Outcome
 shortWriting e k salt output buffer at = putAfter (shortRefusal e k salt output) buffer at (formatted e (shortFields e k salt output))
-
--- ---- all in one, which the library `quick` gives: the reader's answer, how many bytes each byte string has, and the four byte strings, one
--- after the other, from the place on; 1 to 15, then 17, with zeros
-
-abbrev pub joinedBytes : FieldSet → List ℕ
-joinedBytes f = f .keyid ++ (f .ad ++ (f .salt ++ f .output))
-
-abbrev pub counted : Reading → FieldSet → Contents
-counted r f =
-    record {
-      reading = r;
-      keyid = record { 0 = length (f .keyid) };
-      ad = record { 0 = length (f .ad) };
-      salt = record { 0 = length (f .salt) };
-      output = record { 0 = length (f .output) };
-    }
-
--- all-zero
-abbrev pub refusedContents : ℕ → Contents
-refusedContents n =
-    record {
-      reading = refusedReading n;
-      keyid = record { 0 = 0 };
-      ad = record { 0 = 0 };
-      salt = record { 0 = 0 };
-      output = record { 0 = 0 };
-    }
-
-unfoldable pub allDecoded : List Profile → List ℕ → List ℕ → ℕ → Outcome
-allDecoded e s buffer at = putAfter (answer e s) buffer at (joinedBytes (fieldsOf e s))
-
-unfoldable pub contents : List Profile → List ℕ → List ℕ → ℕ → Contents
-contents e s buffer at =
-    let number = allDecoded e s buffer at .number in
-    cond (eqb number 0) (counted (reading e s) (fieldsOf e s)) (refusedContents number)

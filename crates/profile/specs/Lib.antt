@@ -7,4 +7,4 @@ pub mod Entries
 pub mod Claims
 pub mod Strings
 pub mod ReaderSteps
-pub mod WriterSteps
+pub mod PieceTexts

@@ -1,10 +1,10 @@
 -- The computed tests that a table of limits has to pass for the claims to hold of it.
 -- Assumes nothing.
-use Prim.Native.Nat.{ℕ, suc, _*_}
+use Prim.Native.Nat.{ℕ, _*_}
 use mathlib.Core.Bool.{Bool, true, not, _&&_, _||_}
-use mathlib.Core.List.{List, [], _∷_}
+use mathlib.Core.List.{List}
 use lib.Dec.{leb, eqb}
-use Rattle.text.specs.Text.{within, all}
+use Rattle.text.specs.Text.{within, all, every}
 use Rattle.b64.specs.Lengths.{charsOf}
 use Rattle.grammar.specs.Limits.{longestValue, largestVersion}
 use Rattle.grammar.specs.Rules.{isName}
@@ -13,11 +13,6 @@ use Rattle.profile.specs.declared.limits.NumberRule.the-variants.{Needed
 use Rattle.profile.specs.declared.limits.BytesRule.{BytesRule}
 use Rattle.profile.specs.declared.limits.BytesRule.the-variants.{Sized, Barred}
 use Rattle.profile.specs.Limits.{Profile, inRange, versionAllowed, idOf, largest32}
-
--- f passes at each entry and its number, counted from k
-abbrev pub every : (ℕ → Profile → Bool) → ℕ → List Profile → Bool
-every f k [] = true
-every f k (r ∷ rs) = f k r && every f (suc k) rs
 
 -- numbers of 32 bits; what is left out is permitted
 abbrev pub soundNumber : NumberRule → Bool

@@ -1,6 +1,6 @@
 // One byte string: its rule over the span of its text, and over its bytes. Sizes are in bytes, lengths of texts in characters.
+use crate::bounds::is_size;
 use crate::limits::BytesRule;
-use crate::limits::is_size;
 use b64::canonical::is_canonical;
 use b64::lengths::decoded_len;
 use grammar::places::Span;

@@ -1,5 +1,4 @@
 // The fields of a string. The four byte strings travel beside the number fields.
-use text::units::Bytes;
 
 // A version field: absent, or the number written. Absent is a case of its own.
 pub enum Version {
@@ -35,14 +34,4 @@ pub struct Reading {
 pub struct Meaning {
     pub number: u8,
     pub version: u32,
-}
-
-// What a whole string gives: the reader's answer, and how many bytes each of the four byte strings has (`ad` is document 01's data); or the
-// refusal's number and zeros.
-pub struct Contents {
-    pub reading: Reading,
-    pub keyid: Bytes,
-    pub ad: Bytes,
-    pub salt: Bytes,
-    pub output: Bytes,
 }

@@ -1,10 +1,8 @@
 // What a profile allows, by the number of its id (specs/Limits.antt).
 use crate::fields::Version;
-use crate::ranges::highest_of;
-use crate::ranges::lowest_of;
 use text::units::Bytes;
 ghost use mathlib.Core.Path.{_≡_};
-ghost use Rattle.profile.specs.Limits.{inRange, isSize, versionAllowed, profileOf, limitsOf, editionTwo};
+ghost use Rattle.profile.specs.Limits.{versionAllowed, profileOf, limitsOf, editionTwo};
 
 // A number parameter: always written; left out where it is `given`; or none of this id's, and `given`.
 pub enum NumberRule {
@@ -28,24 +26,6 @@ pub struct Limits {
     pub ad: BytesRule,
     pub salt: BytesRule,
     pub output: BytesRule,
-}
-
-pub fn in_range(rule: NumberRule, n: u32) -> bool
-    ensures { λ r. ⌜ r ≡ inRange rule n ⌝ }
-{
-    lowest_of(rule) <= n && n <= highest_of(rule)
-}
-
-pub fn is_size(rule: BytesRule, size: Bytes) -> bool
-    ensures { λ r. ⌜ r ≡ isSize rule (size .0) ⌝ }
-{
-    match rule {
-        BytesRule::Sized { low, high } => {
-            let n = size.0;
-            low.0 <= n && n <= high.0
-        }
-        BytesRule::Barred => false,
-    }
 }
 
 const LARGEST: u32 = 4294967295;

@@ -22,7 +22,7 @@ ghost use Rattle.profile.specs.Fields.{numberReading, misplacedNumber, r
 ghost use Rattle.profile.specs.Reader.{numberRow};
 ghost use Rattle.profile.specs.ReaderSteps.{slotIn};
 ghost use Rattle.text.specs.Place.{Wrote};
-ghost use Rattle.profile.specs.WriterSteps.{tagged, taggedLength};
+ghost use Rattle.profile.specs.PieceTexts.{tagged, taggedLength};
 
 // What was read: the number of the row that applies, 0 where none does, and the value.
 pub struct Number {

@@ -13,7 +13,7 @@ ghost use Rattle.decimal.specs.Decimal.{digits};
 ghost use Rattle.profile.specs.Limits.{room};
 ghost use Rattle.profile.specs.Fields.{writeBytes};
 ghost use Rattle.text.specs.Place.{Wrote};
-ghost use Rattle.profile.specs.WriterSteps.{tagged, taggedLength};
+ghost use Rattle.profile.specs.PieceTexts.{tagged, taggedLength};
 
 // A text alone.
 pub fn put_text(text: &[u8], out: &mut [u8]) -> usize

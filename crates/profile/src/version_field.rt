@@ -8,7 +8,7 @@ ghost use lib.ListN.{length};
 ghost use Rattle.text.specs.Text.{text};
 ghost use Rattle.profile.specs.Fields.{writeVersion};
 ghost use Rattle.text.specs.Place.{Wrote};
-ghost use Rattle.profile.specs.WriterSteps.{tagged, taggedLength};
+ghost use Rattle.profile.specs.PieceTexts.{tagged, taggedLength};
 
 // The length of the version piece with its `$`; nothing where the version is absent.
 pub fn version_len(version: Version) -> usize

@@ -1,8 +1,8 @@
 // The writer's rows 8 to 16 over the fields.
+use crate::bounds::in_range;
 use crate::bytes_field::bytes_allowed;
 use crate::fields::Fields;
 use crate::limits::Limits;
-use crate::limits::in_range;
 use crate::limits::limits_of;
 use crate::limits::version_allowed;
 ghost use mathlib.Core.Path.{_≡_};

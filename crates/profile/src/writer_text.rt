@@ -15,7 +15,7 @@ ghost use lib.ListN.{length};
 ghost use Rattle.profile.specs.Limits.{profileOf, editionTwo, room};
 ghost use Rattle.profile.specs.Fields.{fieldSet};
 ghost use Rattle.text.specs.Place.{Wrote};
-ghost use Rattle.profile.specs.WriterSteps.{costsText, costsLength, itemsText, dollared, headText, piecesText, piecesLength};
+ghost use Rattle.profile.specs.PieceTexts.{costsText, costsLength, itemsText, dollared, headText, piecesText, piecesLength};
 
 // The length of the numbers as items.
 fn costs_len(limits: Limits, n: Fields) -> usize

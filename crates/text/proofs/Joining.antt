@@ -1,8 +1,8 @@
--- The length of joined parts.
+-- Joined parts: each with its separator before it, their length; and five texts one after the other.
 -- Assumes nothing.
 use Prim.Native.Nat.{ℕ, suc, _+_}
-use mathlib.Core.List.{List, [], _∷_}
-use mathlib.Core.Path.{_≡_}
+use mathlib.Core.List.{List, [], _∷_, _++_, append-nil, append-assoc}
+use mathlib.Core.Path.{_≡_, sym, _∙_, ap}
 use native.Mathlib.Omega.{arith}
 use lib.ListN.{length, length-append}
 use Rattle.text.specs.Text.{join}
@@ -16,3 +16,23 @@ pub join-length : (d : ℕ) (p : List ℕ) (qs : List (List ℕ)) → length (jo
 unfolding total
 join-length d p [] = omega arith
 join-length d p (q ∷ qs) = let h = join-length d q qs in omega (arith, length-append p (d ∷ join d q qs))
+
+-- ---- a separator before each part
+
+abbrev pub marked : ℕ → List (List ℕ) → List ℕ
+marked d [] = []
+marked d (q ∷ qs) = d ∷ (q ++ marked d qs)
+
+pub join-marked : (d : ℕ) (p : List ℕ) (qs : List (List ℕ)) → join d p qs ≡ p ++ marked d qs
+join-marked d p [] = sym (append-nil p)
+join-marked d p (q ∷ qs) = ap (λ (l : List ℕ). p ++ d ∷ l) (join-marked d q qs)
+
+-- ---- five texts
+
+pub append-five : (a b c d e : List ℕ) → a ++ (b ++ (c ++ (d ++ e))) ≡ a ++ b ++ c ++ d ++ e
+append-five a b c d e =
+    sym (append-assoc a b (c ++ (d ++ e))) ∙ sym (append-assoc (a ++ b) c (d ++ e)) ∙ sym (append-assoc (a ++ b ++ c) d e)
+
+pub length-five : (a b c d e : List ℕ) → length (a ++ b ++ c ++ d ++ e) ≡ length a + length b + length c + length d + length e
+length-five a b c d e =
+    omega (arith, length-append (a ++ b ++ c ++ d) e, length-append (a ++ b ++ c) d, length-append (a ++ b) c, length-append a b)

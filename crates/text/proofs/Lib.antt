@@ -4,9 +4,13 @@ pub mod Table
 pub mod ClassLaws
 pub mod Scanning
 pub mod Lists
+pub mod Prefixes
+pub mod Starts
+pub mod Runs
 pub mod Writing
 pub mod Over
 pub mod Wrote
+pub mod Writers
 pub mod Groups
 pub mod Splitting
 pub mod Joining

@@ -1,14 +1,38 @@
--- Laws of splitting and joining, of cutting at a byte, and of taking a first element that passes a test.
+-- Laws of emptiness, of tests on every element, of splitting and joining, of cutting at a byte, and of taking a first element that passes a
+-- test.
 -- Assumes nothing.
-use Prim.Native.Nat.{ℕ}
-use mathlib.Core.Bool.{Bool, true, false, cond, true≢false, false≢true}
+use Prim.Native.Nat.{ℕ, zero, suc}
+use mathlib.Core.Bool.{Bool, true, false, cond, _&&_, _||_, and-assoc, true≢false, false≢true}
 use mathlib.Core.List.{List, [], _∷_, _++_}
 use mathlib.Core.Option.{Option, none, some}
 use mathlib.Core.Path.{_≡_, refl, sym, _∙_, ap, ap₂}
+use mathlib.Core.Logic.{⊎-elim}
+use native.Mathlib.Omega.{arith}
 use lib.Dec.{eqb}
+use lib.ListN.{length, take}
 use borrow.Author.Tests.{eqb-true, eq-eqb}
 use Rattle.text.specs.Text.{all, has, same, empty, Parts, putByte, split, join, cutByte, cut, headIf, tailIf, listOf, Frees, Fails, Fits}
-use Rattle.text.proofs.Tests.{both, and-true, neither, or-false}
+use Rattle.text.proofs.Tests.{both, and-true, neither, or-false, either}
+
+-- ---- emptiness
+
+module _ {A : Type 0} where
+  pub empty-nil : (l : List A) → empty l ≡ true → l ≡ []
+  empty-nil [] e = refl
+  empty-nil (x ∷ l) e = absurd (false≢true e)
+
+  pub length-nil : (l : List A) → length l ≡ 0 → l ≡ []
+  length-nil [] e = refl
+  length-nil (x ∷ l) e = absurd (omega arith)
+
+  pub length-empty : (l : List A) → length l ≡ 0 → empty l ≡ true
+  length-empty l e = rw (length-nil l e)
+
+  pub length-filled : (l : List A) → (length l ≡ 0 → ⊥) → empty l ≡ false
+  length-filled [] n = absurd (n refl)
+  length-filled (x ∷ l) n = refl
+
+-- ---- two texts, and tests on every element
 
 pub same-eq : (s u : List ℕ) → same s u ≡ true → s ≡ u
 same-eq [] [] e = refl
@@ -36,9 +60,13 @@ pub has-append : (d : ℕ) (s u : List ℕ) → has d s ≡ false → has d u �
 has-append d [] u p q = q
 has-append d (c ∷ s) u p q = let r = neither (eqb c d) (has d s) p in or-false (r .0) (has-append d s u (r .1) q)
 
-pub all-append : (f : ℕ → Bool) (s u : List ℕ) → all f s ≡ true → all f u ≡ true → all f (s ++ u) ≡ true
-all-append f [] u p q = q
-all-append f (c ∷ s) u p q = let r = both (f c) (all f s) p in and-true (r .0) (all-append f s u (r .1) q)
+-- an element of a list passes what all do
+pub all-has : (f : ℕ → Bool) (d : ℕ) (s : List ℕ) → all f s ≡ true → has d s ≡ true → f d ≡ true
+all-has f d s a h = ⊎-elim (λ p. p) (λ q. absurd (true≢false (sym h ∙ not-in f d q s a))) (either (f d))
+
+pub all-append : (f : ℕ → Bool) (s u : List ℕ) → all f (s ++ u) ≡ (all f s && all f u)
+all-append f [] u = refl
+all-append f (c ∷ s) u = rw (all-append f s u, and-assoc)
 
 pub all-map : (f g : ℕ → Bool) → ((c : ℕ) → f c ≡ true → g c ≡ true) → (s : List ℕ) → all f s ≡ true → all g s ≡ true
 all-map f g h [] p = refl
@@ -83,6 +111,28 @@ join-cut d (c ∷ s) e = go (eqb c d) refl (cut d s) e (join-cut d s)
     go : (b : Bool) → eqb c d ≡ b → (r : List ℕ × List ℕ) → empty (cutByte b c s r .1) ≡ false → (empty (r .1) ≡ false → r .0 ++ d ∷ r .1 ≡ s) → cutByte b c s r .0 ++ d ∷ cutByte b c s r .1 ≡ c ∷ s
     go true q r e h = ap {B = List ℕ} (λ x. x ∷ s) (sym (eqb-true c d q))
     go false q r e h = ap {B = List ℕ} (λ l. c ∷ l) (h e)
+
+-- what is cut off before a separator has none, and is all where there is none
+pub cut-free : (d : ℕ) (s : List ℕ) → has d (cut d s .0) ≡ false
+cut-free d [] = refl
+cut-free d (a ∷ s) = go (eqb a d) refl (cut-free d s)
+  where
+    go : (q : Bool) → eqb a d ≡ q → has d (cut d s .0) ≡ false → has d (cutByte q a s (cut d s) .0) ≡ false
+    go true e h = refl
+    go false e h = or-false e h
+
+pub cut-whole : (d : ℕ) (s : List ℕ) → has d s ≡ false → cut d s .0 ≡ s
+cut-whole d [] h = refl
+cut-whole d (a ∷ s) h = go (eqb a d) (cut-whole d s) h
+  where
+    go : (q : Bool) → (has d s ≡ false → cut d s .0 ≡ s) → (q || has d s) ≡ false → cutByte q a s (cut d s) .0 ≡ a ∷ s
+    go true i h = absurd (true≢false h)
+    go false i h = ap (λ (v : List ℕ). a ∷ v) (i h)
+
+pub take-free : (d n : ℕ) (s : List ℕ) → has d s ≡ false → has d (take n s) ≡ false
+take-free d zero s h = refl
+take-free d (suc n) [] h = refl
+take-free d (suc n) (a ∷ s) h = let p = neither (eqb a d) (has d s) h in or-false (p .0) (take-free d n s (p .1))
 
 -- ---- a first element that passes a test
 

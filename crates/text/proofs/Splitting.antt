@@ -11,7 +11,7 @@ use borrow.Author.Tests.{le-leb, lt-leb, leb-true, leb-false, lt-ltb, le-ltb, lt
 use lib.Dec.{leb, ltb, eqb, leb·zero, leb·suc-suc}
 use lib.ListN.{length, take, drop, getD, length-drop}
 use lib.Seq.{drop-drop}
-use Rattle.text.specs.Text.{has, find, empty, putByte, split, parts, cutByte, cut, partsFrom}
+use Rattle.text.specs.Text.{has, find, empty, putByte, split, parts, cutByte, cut, partsFrom, nextAt}
 use Rattle.text.proofs.Writing.{leb-sub}
 
 -- ---- the parts from a place on: the first, and those after its separator
@@ -90,6 +90,12 @@ cut-before d (c ∷ s) = go (eqb c d) (cut-before d s)
     go true h = refl
     go false h = ap (λ (l : List ℕ). c ∷ l) h
 
+-- the part from a place to the next separator
+pub cut-to : (d : ℕ) (s : List ℕ) (at e : ℕ) → e ≡ nextAt d s at → take (e - at) (drop at s) ≡ cut d (drop at s) .0
+cut-to d s at e q =
+    let k : e - at ≡ find d (drop at s) = omega arith in
+    ap (λ (n : ℕ). take n (drop at s)) k ∙ sym (cut-before d (drop at s))
+
 pub cut-after : (d : ℕ) (s : List ℕ) → cut d s .1 ≡ drop (find d s + 1) s
 cut-after d [] = refl
 cut-after d (c ∷ s) = go (eqb c d) (cut-after d s)
@@ -109,3 +115,12 @@ has-find d (c ∷ s) = go (eqb c d) (has-find d s)
         shift : (b : Bool) → ltb (find d s) (length s) ≡ b → b ≡ ltb (suc (find d s)) (suc (length s))
         shift true e = sym (lt-ltb (suc (find d s)) (suc (length s)) (omega (arith, ltb-true (find d s) (length s) e)))
         shift false e = sym (le-ltb (suc (find d s)) (suc (length s)) (omega (arith, ltb-false (find d s) (length s) e)))
+
+pub found : (d : ℕ) (s : List ℕ) → find d s < length s → has d s ≡ true
+found d s h = has-find d s ∙ lt-ltb (find d s) (length s) h
+
+pub unfound : (d : ℕ) (s : List ℕ) → length s ≤ find d s → has d s ≡ false
+unfound d s h = has-find d s ∙ le-ltb (find d s) (length s) h
+
+pub find-inside : (d : ℕ) (s : List ℕ) → has d s ≡ true → find d s < length s
+find-inside d s h = ltb-true (find d s) (length s) (sym (has-find d s) ∙ h)

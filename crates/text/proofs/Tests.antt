@@ -33,6 +33,10 @@ pub is-false : (a : Bool) → not a ≡ true → a ≡ false
 is-false true e = absurd (false≢true e)
 is-false false e = refl
 
+pub implied : (a b : Bool) → (not a || b) ≡ true → a ≡ true → b ≡ true
+implied true b h e = h
+implied false b h e = absurd (false≢true e)
+
 pub from-within : (low high n : ℕ) → within low high n ≡ true → (low ≤ n) × (n ≤ high)
 from-within low high n e = let p = both (leb low n) (leb n high) e in (leb-true low n (p .0), leb-true n high (p .1))
 

@@ -26,6 +26,11 @@ abbrev pub all : {A : Type 0} → (A → Bool) → List A → Bool
 all f [] = true
 all f (x ∷ xs) = f x && all f xs
 
+-- f passes at each element and its place, counted from k
+abbrev pub every : {A : Type 0} → (ℕ → A → Bool) → ℕ → List A → Bool
+every f k [] = true
+every f k (x ∷ xs) = f k x && every f (suc k) xs
+
 abbrev pub has : ℕ → List ℕ → Bool
 has d [] = false
 has d (c ∷ cs) = eqb c d || has d cs
@@ -70,6 +75,11 @@ parts d s = split d s .0 ∷ split d s .1
 unfoldable pub partsFrom : ℕ → List ℕ → ℕ → List (List ℕ)
 partsFrom d s at = cond (leb at (length s)) (parts d (drop at s)) []
 
+-- the parts joined
+abbrev pub concat : List (List ℕ) → List ℕ
+concat [] = []
+concat (p ∷ ps) = p ++ concat ps
+
 -- the parts with d between each two
 abbrev pub join : ℕ → List ℕ → List (List ℕ) → List ℕ
 join d p [] = p
@@ -111,6 +121,17 @@ Fails f (x ∷ xs) = f x ≡ false
 abbrev pub Fits : {A : Type 0} → (A → Bool) → Option A → List A → Type 0
 Fits f none l = Fails f l
 Fits f (some x) l = f x ≡ true
+
+-- the elements of a class at the start of a text
+abbrev pub run : (ℕ → Bool) → List ℕ → List ℕ
+run f [] = []
+run f (c ∷ s) = cond (f c) (c ∷ run f s) []
+
+-- the second text begins with the first
+abbrev pub startsWith : List ℕ → List ℕ → Bool
+startsWith [] t = true
+startsWith (c ∷ l) [] = false
+startsWith (c ∷ l) (d ∷ t) = eqb d c && startsWith l t
 
 -- present, and fails the test
 abbrev pub broken : {A : Type 0} → (A → Bool) → Option A → Bool

@@ -1,6 +1,8 @@
-// Walks over texts: the next separator, and whether two texts are the same.
+// Walks over texts: the next separator, the parts between separators, and whether two texts are the same.
 ghost use mathlib.Core.Path.{_≡_};
-ghost use Rattle.text.specs.Text.{same, nextAt};
+ghost use mathlib.Core.List.{[]};
+ghost use lib.ListN.{getD};
+ghost use Rattle.text.specs.Text.{same, nextAt, parts};
 
 // The place of the first `byte` from `from` on; the end where there is none, and `from` itself past the end.
 pub fn next_at(s: &[u8], from: usize, byte: u8) -> usize
@@ -31,4 +33,21 @@ pub fn same_text(a: &[u8], b: &[u8]) -> bool
         i += 1;
     }
     true
+}
+
+// The part at an index from 0 between the separators; empty past the last.
+pub fn nth_part(s: &[u8], separator: u8, index: usize) -> &[u8]
+    ensures { λ r. ⌜ now r ≡ getD (parts separator (now (s .entry))) index [] ⌝ }
+{
+    let mut k = index;
+    let mut at = 0;
+    while at <= s.len() {
+        let end = next_at(s, at, separator);
+        if k == 0 {
+            return &s[at..end];
+        }
+        k -= 1;
+        at = end + 1;
+    }
+    &s[0..0]
 }

@@ -11,10 +11,11 @@ use profile::fields::Fields;
 use profile::fields::Version;
 use profile::writer::write;
 use profile::writer::write_short;
+use text::lines::after_line;
+use text::lines::line_at;
 use text::place::Written;
-use text::scan::next_at;
+use text::scan::nth_part;
 use text::scan::same_text;
-use text::units::Chars;
 ghost use Prim.Native.Nat.{_≤_};
 
 // The string is written in the middle of a buffer, so that a writer that begins at its start shows.
@@ -27,30 +28,9 @@ fn show(text: &[u8]) {
     io::write_all(STDOUT_FILENO, text);
 }
 
-// The place past so many tabs; the end where there are fewer.
-fn column_at(line: &[u8], index: usize) -> usize {
-    let mut at: usize = 0;
-    let mut k: usize = 0;
-    while k < index {
-        let tab = next_at(line, at, b'\t');
-        if line.len() <= tab {
-            return line.len();
-        }
-        at = tab + 1;
-        k += 1;
-    }
-    at
-}
-
 // The column at an index from 0; empty past the last.
 fn column(line: &[u8], index: usize) -> &[u8] {
-    let at = column_at(line, index);
-    let end = next_at(line, at, b'\t');
-    if end < at {
-        return &line[0..0];
-    }
-    let len = Chars(end - at);
-    part(line, Span { at, len })
+    nth_part(line, b'\t', index)
 }
 
 // A decimal of at most `high`; 0 for any other text.
@@ -170,18 +150,8 @@ fn row(line: &[u8]) {
 fn rows(text: &[u8]) {
     let mut at: usize = 0;
     while at < text.len() {
-        let end = next_at(text, at, b'\n');
-        if end < at {
-            return;
-        }
-        if text.len() < end {
-            return;
-        }
-        row(&text[at..end]);
-        if text.len() == end {
-            return;
-        }
-        at = end + 1;
+        row(line_at(text, at));
+        at = after_line(text, at);
     }
 }
 

@@ -18,17 +18,11 @@ loop-holds c = refl
 same-length : tie.Need-same-length Inv-loop μ-loop
 same-length c = omega arith
 
-returns : tie.Need-returns Inv-loop μ-loop
-returns c = tt
-
 mul-nibble : tie.Need-mul-nibble Inv-loop μ-loop
 mul-nibble c = omega arith
 
 shared-slice-read-nibble : tie.Need-shared-slice-read-nibble Inv-loop μ-loop
 shared-slice-read-nibble c = omega arith
-
-nibble-requires : tie.Need-nibble-requires Inv-loop μ-loop
-nibble-requires c κs = tt
 
 mul-nibble-2 : tie.Need-mul-nibble-2 Inv-loop μ-loop
 mul-nibble-2 c = omega arith
@@ -38,9 +32,6 @@ add-nibble c = omega arith
 
 shared-slice-read-nibble-2 : tie.Need-shared-slice-read-nibble-2 Inv-loop μ-loop
 shared-slice-read-nibble-2 c = omega arith
-
-nibble-requires-2 : tie.Need-nibble-requires-2 Inv-loop μ-loop
-nibble-requires-2 c κs = tt
 
 slice-write-buf : tie.Need-slice-write-buf Inv-loop μ-loop
 slice-write-buf c = omega arith
@@ -57,9 +48,6 @@ loop-again c = simp length-set (omega arith)
 same-length-2 : tie.Need-same-length-2 Inv-loop μ-loop
 same-length-2 c = omega arith
 
-returns-2 : tie.Need-returns-2 Inv-loop μ-loop
-returns-2 c = tt
-
 pub decode-hex-spec : {M : Type 1} → statement M
 decode-hex-spec =
     tie.close
@@ -68,17 +56,17 @@ decode-hex-spec =
     μ-loop
     loop-holds
     same-length
-    returns
+    (λ c. tt)
     mul-nibble
     shared-slice-read-nibble
-    nibble-requires
+    (λ c κs. tt)
     mul-nibble-2
     add-nibble
     shared-slice-read-nibble-2
-    nibble-requires-2
+    (λ c κs. tt)
     slice-write-buf
     add-i
     loop-less
     loop-again
     same-length-2
-    returns-2)
+    (λ c. tt))

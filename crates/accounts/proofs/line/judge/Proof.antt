@@ -19,9 +19,6 @@ tabbed c =
     let l = now (c .before .before .before .before .args .line) in
     omega (arith, tab-is (c .before .before), tab-there l (sym (c .before .line-refusal .ensures) ∙ c .if1 .left))
 
-next-at-requires : tie.Need-next-at-requires
-next-at-requires c κs = search needs
-
 line-refusal-requires : tie.Need-line-refusal-requires
 line-refusal-requires c κs = tab-is c
 
@@ -39,12 +36,6 @@ sub-read c = omega (arith, tabbed c)
 part-read-start : tie.Need-part-read-start
 part-read-start c = omega (arith, tabbed c)
 
-part-read-end : tie.Need-part-read-end
-part-read-end c = search needs
-
-read-requires : tie.Need-read-requires
-read-requires c κs = search needs
-
 returns-2 : tie.Need-returns-2
 returns-2 c =
     let e = c .before .before in
@@ -55,12 +46,12 @@ pub judge-spec : {M : Type 1} → statement M
 judge-spec =
     tie.close
     (tie.spec
-    next-at-requires
+    (λ c κs. search needs)
     line-refusal-requires
     returns
     add-read
     sub-read
     part-read-start
-    part-read-end
-    read-requires
+    (λ c. search needs)
+    (λ c κs. search needs)
     returns-2)

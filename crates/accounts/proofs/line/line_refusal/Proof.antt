@@ -15,18 +15,6 @@ returns-2 c =
     let s = c .before .before .before in
     sym (line-untabbed (now (s .args .line)) (c .before .if1 .left) (omega (arith, s .pre, c .if2 .taken)))
 
-sub-is-name : tie.Need-sub-is-name
-sub-is-name c = search needs
-
-part-is-name-start : tie.Need-part-is-name-start
-part-is-name-start c = search needs
-
-part-is-name-end : tie.Need-part-is-name-end
-part-is-name-end c = search needs
-
-is-name-requires : tie.Need-is-name-requires
-is-name-requires c κs = search needs
-
 returns-3 : tie.Need-returns-3
 returns-3 c =
     let e = c .before .before .before in
@@ -45,9 +33,9 @@ line-refusal-spec =
     (tie.spec
     returns
     returns-2
-    sub-is-name
-    part-is-name-start
-    part-is-name-end
-    is-name-requires
+    (λ c. search needs)
+    (λ c. search needs)
+    (λ c. search needs)
+    (λ c κs. search needs)
     returns-3
     returns-4)

@@ -8,18 +8,6 @@ use Rattle.accounts.proofs.FeedLaws.{end-nothing, end-row}
 use Rattle.accounts.proofs.listing.end_in.Statement.{statement}
 use Rattle.accounts.proofs.listing.end_in.Tie as tie
 
-held-len-requires : tie.Need-held-len-requires
-held-len-requires c κs = search needs
-
-slice-aggregate-write-text : tie.Need-slice-aggregate-write-text
-slice-aggregate-write-text c = search needs
-
-write-text-requires : tie.Need-write-text-requires
-write-text-requires c κs = search needs
-
-same-length : tie.Need-same-length
-same-length c = search needs
-
 returns : tie.Need-returns
 unfolding endPut
 returns c =
@@ -28,24 +16,6 @@ returns c =
     let a = h .before .before .before .args in
     w .write-text .ensures
     ∙ ap (put (now (a .buf)) (a .at)) (sym (end-nothing (now (a .array)) (a .kept) (h .held-len .result) (a .line) (h .held-len .ensures) (w .before .before .before .if1 .taken)))
-
-sub-judge : tie.Need-sub-judge
-sub-judge c = search needs
-
-part-judge-start : tie.Need-part-judge-start
-part-judge-start c = search needs
-
-part-judge-end : tie.Need-part-judge-end
-part-judge-end c = search needs
-
-judge-requires : tie.Need-judge-requires
-judge-requires c κs = search needs
-
-write-row-requires : tie.Need-write-row-requires
-write-row-requires c κs = search needs
-
-same-length-2 : tie.Need-same-length-2
-same-length-2 c = search needs
 
 returns-2 : tie.Need-returns-2
 unfolding endPut
@@ -62,15 +32,15 @@ pub end-in-spec : {M : Type 1} → statement M
 end-in-spec =
     tie.close
     (tie.spec
-    held-len-requires
-    slice-aggregate-write-text
-    write-text-requires
-    same-length
+    (λ c κs. search needs)
+    (λ c. search needs)
+    (λ c κs. search needs)
+    (λ c. search needs)
     returns
-    sub-judge
-    part-judge-start
-    part-judge-end
-    judge-requires
-    write-row-requires
-    same-length-2
+    (λ c. search needs)
+    (λ c. search needs)
+    (λ c. search needs)
+    (λ c κs. search needs)
+    (λ c κs. search needs)
+    (λ c. search needs)
     returns-2)

@@ -7,30 +7,6 @@ use Rattle.accounts.proofs.FeedLaws.{copied}
 use Rattle.accounts.proofs.listing.judge_copied.Statement.{statement}
 use Rattle.accounts.proofs.listing.judge_copied.Tie as tie
 
-write-text-requires : tie.Need-write-text-requires
-write-text-requires c κs = search needs
-
-write-text-requires-2 : tie.Need-write-text-requires-2
-write-text-requires-2 c κs = search needs
-
-add-judge : tie.Need-add-judge
-add-judge c = search needs
-
-sub-judge : tie.Need-sub-judge
-sub-judge c = search needs
-
-part-judge-start : tie.Need-part-judge-start
-part-judge-start c = search needs
-
-part-judge-end : tie.Need-part-judge-end
-part-judge-end c = search needs
-
-judge-requires : tie.Need-judge-requires
-judge-requires c κs = search needs
-
-same-length : tie.Need-same-length
-same-length c = search needs
-
 returns : tie.Need-returns
 returns c =
     let y = c .before .before .before .before .before in
@@ -44,12 +20,12 @@ pub judge-copied-spec : {M : Type 1} → statement M
 judge-copied-spec =
     tie.close
     (tie.spec
-    write-text-requires
-    write-text-requires-2
-    add-judge
-    sub-judge
-    part-judge-start
-    part-judge-end
-    judge-requires
-    same-length
+    (λ c κs. search needs)
+    (λ c κs. search needs)
+    (λ c. search needs)
+    (λ c. search needs)
+    (λ c. search needs)
+    (λ c. search needs)
+    (λ c κs. search needs)
+    (λ c. search needs)
     returns)

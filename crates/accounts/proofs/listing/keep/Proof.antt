@@ -5,30 +5,6 @@ use Rattle.accounts.proofs.FeedLaws.{kept-more}
 use Rattle.accounts.proofs.listing.keep.Statement.{statement}
 use Rattle.accounts.proofs.listing.keep.Tie as tie
 
-sub-least : tie.Need-sub-least
-sub-least c = search needs
-
-least-requires : tie.Need-least-requires
-least-requires c κs = search needs
-
-sub-write-text : tie.Need-sub-write-text
-sub-write-text c = search needs
-
-part-write-text-start : tie.Need-part-write-text-start
-part-write-text-start c = search needs
-
-part-write-text-end : tie.Need-part-write-text-end
-part-write-text-end c = search needs
-
-write-text-requires : tie.Need-write-text-requires
-write-text-requires c κs = search needs
-
-add-result : tie.Need-add-result
-add-result c = search needs
-
-same-length : tie.Need-same-length
-same-length c = search needs
-
 returns : tie.Need-returns
 returns c =
     let w = c .before .before in
@@ -41,12 +17,12 @@ pub keep-spec : {M : Type 1} → statement M
 keep-spec =
     tie.close
     (tie.spec
-    sub-least
-    least-requires
-    sub-write-text
-    part-write-text-start
-    part-write-text-end
-    write-text-requires
-    add-result
-    same-length
+    (λ c. search needs)
+    (λ c κs. search needs)
+    (λ c. search needs)
+    (λ c. search needs)
+    (λ c. search needs)
+    (λ c κs. search needs)
+    (λ c. search needs)
+    (λ c. search needs)
     returns)

@@ -6,23 +6,11 @@ use Rattle.accounts.proofs.FeedLaws.{row-full, row-done}
 use Rattle.accounts.proofs.listing.row_of.Statement.{statement}
 use Rattle.accounts.proofs.listing.row_of.Tie as tie
 
-write-row-requires : tie.Need-write-row-requires
-write-row-requires c κs = search needs
-
-same-length : tie.Need-same-length
-same-length c = search needs
-
 returns : tie.Need-returns
 returns c =
     let w = c .before .before .before .before in
     let a = w .before .before .before .args in
     λ d. row-full d (now (a .buf)) _ (rowText (a .line) (a .answer)) (a .line) (a .place) (a .at) (w .write-row .result .number) (w .write-row .result .count .0) (c .if1 .taken) (w .write-row .ensures)
-
-next-line-requires : tie.Need-next-line-requires
-next-line-requires c κs = search needs
-
-same-length-2 : tie.Need-same-length-2
-same-length-2 c = search needs
 
 returns-2 : tie.Need-returns-2
 returns-2 c =
@@ -34,4 +22,4 @@ returns-2 c =
 pub row-of-spec : {M : Type 1} → statement M
 row-of-spec =
     tie.close
-    (tie.spec write-row-requires same-length returns next-line-requires same-length-2 returns-2)
+    (tie.spec (λ c κs. search needs) (λ c. search needs) returns (λ c κs. search needs) (λ c. search needs) returns-2)

@@ -113,26 +113,11 @@ wrote₅ c =
     wrote-more (out s) (fourth c .write-text2 .last .1 .0) (c .write-kind .last .1 .0) (t₄ s) (kindLine (s .args .answer .kind)) (after₄ (fourth c)) (c .write-kind .result .number) (c .write-kind .result .count .0)
     (fits₅ s) (wrote₄ (fourth c)) (c .write-kind .ensures)
 
-write-unsigned-requires : tie.Need-write-unsigned-requires
-write-unsigned-requires c κs = search needs
-
-slice-aggregate-write-text : tie.Need-slice-aggregate-write-text
-slice-aggregate-write-text c = search needs
-
-write-text-requires : tie.Need-write-text-requires
-write-text-requires c κs = search needs
-
 add-before-answer : tie.Need-add-before-answer
 add-before-answer c =
     let w = c .before .before .before in
     let s = start (first w) in
     omega (arith, wrote₂ w .count-is, fits₂ s, small s)
-
-cast-write-unsigned : tie.Need-cast-write-unsigned
-cast-write-unsigned c = search needs
-
-write-unsigned-requires-2 : tie.Need-write-unsigned-requires-2
-write-unsigned-requires-2 c κs = search needs
 
 add-after-answer : tie.Need-add-after-answer
 add-after-answer c =
@@ -140,20 +125,11 @@ add-after-answer c =
     let s = start (first (second w)) in
     omega (arith, wrote₃ w .count-is, fits₃ s, small s)
 
-slice-aggregate-write-text-2 : tie.Need-slice-aggregate-write-text-2
-slice-aggregate-write-text-2 c = search needs
-
-write-text-requires-2 : tie.Need-write-text-requires-2
-write-text-requires-2 c κs = search needs
-
 add-before-kind : tie.Need-add-before-kind
 add-before-kind c =
     let w = c .before .before .before in
     let s = start (first (second (third w))) in
     omega (arith, wrote₄ w .count-is, fits₄ s, small s)
-
-write-kind-requires : tie.Need-write-kind-requires
-write-kind-requires c κs = search needs
 
 add-result : tie.Need-add-result
 add-result c =
@@ -175,17 +151,17 @@ pub put-row-spec : {M : Type 1} → statement M
 put-row-spec =
     tie.close
     (tie.spec
-    write-unsigned-requires
-    slice-aggregate-write-text
-    write-text-requires
+    (λ c κs. search needs)
+    (λ c. search needs)
+    (λ c κs. search needs)
     add-before-answer
-    cast-write-unsigned
-    write-unsigned-requires-2
+    (λ c. search needs)
+    (λ c κs. search needs)
     add-after-answer
-    slice-aggregate-write-text-2
-    write-text-requires-2
+    (λ c. search needs)
+    (λ c κs. search needs)
     add-before-kind
-    write-kind-requires
+    (λ c κs. search needs)
     add-result
     same-length
     returns)

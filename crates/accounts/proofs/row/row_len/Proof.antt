@@ -25,23 +25,11 @@ lengths c =
       length-digits 19 (s .args .answer .number) (omega (arith, s .good .1 .0)),
     )
 
-unsigned-len-requires : tie.Need-unsigned-len-requires
-unsigned-len-requires c κs = search needs
-
-cast-unsigned-len : tie.Need-cast-unsigned-len
-cast-unsigned-len c = search needs
-
-unsigned-len-requires-2 : tie.Need-unsigned-len-requires-2
-unsigned-len-requires-2 c κs = search needs
-
 add-result : tie.Need-add-result
 add-result c = let l = lengths (c .before .before) in omega (arith, l .0, l .1, l .2, l .3)
 
 add-result-2 : tie.Need-add-result-2
 add-result-2 c = let l = lengths (c .before .before) in omega (arith, l .0, l .1, l .2, l .3)
-
-kind-len-requires : tie.Need-kind-len-requires
-kind-len-requires c κs = search needs
 
 add-result-3 : tie.Need-add-result-3
 add-result-3 c =
@@ -60,11 +48,11 @@ pub row-len-spec : {M : Type 1} → statement M
 row-len-spec =
     tie.close
     (tie.spec
-    unsigned-len-requires
-    cast-unsigned-len
-    unsigned-len-requires-2
+    (λ c κs. search needs)
+    (λ c. search needs)
+    (λ c κs. search needs)
     add-result
     add-result-2
-    kind-len-requires
+    (λ c κs. search needs)
     add-result-3
     returns)

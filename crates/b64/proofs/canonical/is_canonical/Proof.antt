@@ -7,8 +7,5 @@ use Rattle.b64.proofs.canonical.is_canonical.Tie as tie
 is-canonical-by-requires : tie.Need-is-canonical-by-requires
 is-canonical-by-requires c κs = sextets-rule
 
-returns : tie.Need-returns
-returns c = search needs
-
 pub is-canonical-spec : {M : Type 1} → statement M
-is-canonical-spec = tie.close (tie.spec is-canonical-by-requires returns)
+is-canonical-spec = tie.close (tie.spec is-canonical-by-requires (λ c. search needs))

@@ -21,12 +21,6 @@ loop-holds c =
     let a = c .before .before .args in
     (omega arith, rw (completed-decode (a .text .now) 0) (partly-start (decode (a .text .now)) (a .out .now)))
 
-shared-slice-read-sextet-of : tie.Need-shared-slice-read-sextet-of Inv-loop μ-loop
-shared-slice-read-sextet-of c = search needs
-
-sextet-of-requires : tie.Need-sextet-of-requires Inv-loop μ-loop
-sextet-of-requires c κs = search needs
-
 -- the sextet that was read
 low : (c : tie.After-sextet-of Inv-loop μ-loop) → c .sextet-of .result < 64
 low c =
@@ -41,12 +35,6 @@ store-next-requires c κs =
       next-room (s .args .text .now) (s .args .out .now) (p .loop .out) (p .loop .i) (p .loop .o) (p .loop .prior) _ (c .before .before .before .loop-test .taken)
           (c .before .sextet-of .ensures) (p .loop .inv .1) (s .pre .1 .0),
     )
-
-add-i : tie.Need-add-i Inv-loop μ-loop
-add-i c = search needs
-
-loop-less : tie.Need-loop-less Inv-loop μ-loop
-loop-less c = search needs
 
 loop-again : tie.Need-loop-again Inv-loop μ-loop
 loop-again c =
@@ -74,11 +62,11 @@ decode-all-spec =
     Inv-loop
     μ-loop
     loop-holds
-    shared-slice-read-sextet-of
-    sextet-of-requires
+    (λ c. search needs)
+    (λ c κs. search needs)
     store-next-requires
-    add-i
-    loop-less
+    (λ c. search needs)
+    (λ c. search needs)
     loop-again
     same-length
     returns)

@@ -10,20 +10,11 @@ returns c =
     let a = c .before .before .args in
     stored-none (a .place) (a .prior) (a .own) (a .out .now) (a .o) (c .if1 .taken)
 
-completed-requires : tie.Need-completed-requires
-completed-requires c κs = search needs
-
 slice-write-out : tie.Need-slice-write-out
 slice-write-out c =
     let p = c .before .before .before in
     let a = p .args in
     stored-room (a .place) (a .prior) (a .own) (a .out .now) (a .o) (c .before .if1 .left) (p .pre .1)
-
-add-result : tie.Need-add-result
-add-result c = search needs
-
-same-length : tie.Need-same-length
-same-length c = search needs
 
 returns-2 : tie.Need-returns-2
 returns-2 c =
@@ -34,4 +25,4 @@ returns-2 c =
 pub store-next-spec : {M : Type 1} → statement M
 store-next-spec =
     tie.close
-    (tie.spec returns completed-requires slice-write-out add-result same-length returns-2)
+    (tie.spec returns (λ c κs. search needs) slice-write-out (λ c. search needs) (λ c. search needs) returns-2)

@@ -7,23 +7,8 @@ use borrow.Author.Needs.{needs}
 use Rattle.b64.proofs.encoder.encode_group.Statement.{statement}
 use Rattle.b64.proofs.encoder.encode_group.Tie as tie
 
-shared-slice-read-x : tie.Need-shared-slice-read-x
-shared-slice-read-x c = search needs
-
-shared-slice-read-y : tie.Need-shared-slice-read-y
-shared-slice-read-y c = search needs
-
-shared-slice-read-z : tie.Need-shared-slice-read-z
-shared-slice-read-z c = search needs
-
 letter-of-requires : tie.Need-letter-of-requires
 letter-of-requires c κs = (omega (arith, c .shared-slice-known4 .given 0), c .before .before .before .before .before .pre .1)
-
-slice-write-out : tie.Need-slice-write-out
-slice-write-out c = search needs
-
-mul-letter-of : tie.Need-mul-letter-of
-mul-letter-of c = search needs
 
 add-letter-of : tie.Need-add-letter-of
 add-letter-of c = omega (arith, c .before .shared-slice-known4 .given 1)
@@ -33,9 +18,6 @@ letter-of-requires-2 c κs = (omega (arith, c .before .shared-slice-known4 .give
 
 slice-write-out-2 : tie.Need-slice-write-out-2
 slice-write-out-2 c = simp length-set (omega arith)
-
-mul-letter-of-2 : tie.Need-mul-letter-of-2
-mul-letter-of-2 c = search needs
 
 add-letter-of-2 : tie.Need-add-letter-of-2
 add-letter-of-2 c = omega (arith, c .before .before .shared-slice-known4 .given 2)
@@ -49,12 +31,6 @@ slice-write-out-3 c = simp length-set (omega arith)
 letter-of-requires-4 : tie.Need-letter-of-requires-4
 letter-of-requires-4 c κs = (search needs, c .before .before .before .before .before .before .before .before .pre .1)
 
-slice-write-out-4 : tie.Need-slice-write-out-4
-slice-write-out-4 c = search needs
-
-same-length : tie.Need-same-length
-same-length c = search needs
-
 returns : tie.Need-returns
 returns c =
     let p = c .before .before .before .before .before .before .before .before .before in
@@ -65,20 +41,20 @@ pub encode-group-spec : {M : Type 1} → statement M
 encode-group-spec =
     tie.close
     (tie.spec
-    shared-slice-read-x
-    shared-slice-read-y
-    shared-slice-read-z
+    (λ c. search needs)
+    (λ c. search needs)
+    (λ c. search needs)
     letter-of-requires
-    slice-write-out
-    mul-letter-of
+    (λ c. search needs)
+    (λ c. search needs)
     add-letter-of
     letter-of-requires-2
     slice-write-out-2
-    mul-letter-of-2
+    (λ c. search needs)
     add-letter-of-2
     letter-of-requires-3
     slice-write-out-3
     letter-of-requires-4
-    slice-write-out-4
-    same-length
+    (λ c. search needs)
+    (λ c. search needs)
     returns)

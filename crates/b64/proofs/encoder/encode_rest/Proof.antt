@@ -11,29 +11,17 @@ use Rattle.b64.proofs.encoder.encode_rest.Tie as tie
 returns : tie.Need-returns
 returns c = rw (encode-none (c .before .before .before .args .bytes .now) (omega arith))
 
-shared-slice-read-x : tie.Need-shared-slice-read-x
-shared-slice-read-x c = search needs
-
 letter-of-requires : tie.Need-letter-of-requires
 letter-of-requires c κs = (omega (arith, c .shared-slice-known2 .given 0), c .before .before .before .before .pre .1 .1)
 
 slice-write-out : tie.Need-slice-write-out
 slice-write-out c = omega (arith, length-encode (c .before .before .before .before .before .args .bytes .now))
 
-mul-letter-of : tie.Need-mul-letter-of
-mul-letter-of c = search needs
-
 letter-of-requires-2 : tie.Need-letter-of-requires-2
 letter-of-requires-2 c κs = (search needs, c .before .before .before .before .before .before .pre .1 .1)
 
 slice-write-out-2 : tie.Need-slice-write-out-2
 slice-write-out-2 c = simp length-set (omega (arith, length-encode (c .before .before .before .before .before .before .before .args .bytes .now)))
-
-shared-slice-read-y : tie.Need-shared-slice-read-y
-shared-slice-read-y c = search needs
-
-mul-letter-of-2 : tie.Need-mul-letter-of-2
-mul-letter-of-2 c = search needs
 
 add-letter-of : tie.Need-add-letter-of
 add-letter-of c = omega (arith, c .shared-slice-known3 .given 1)
@@ -44,25 +32,16 @@ letter-of-requires-3 c κs = (omega (arith, c .shared-slice-known3 .given 1), c 
 slice-write-out-3 : tie.Need-slice-write-out-3
 slice-write-out-3 c = simp length-set (omega (arith, length-encode (c .before .before .before .before .before .before .before .before .args .bytes .now)))
 
-mul-letter-of-3 : tie.Need-mul-letter-of-3
-mul-letter-of-3 c = search needs
-
 letter-of-requires-4 : tie.Need-letter-of-requires-4
 letter-of-requires-4 c κs = (search needs, c .before .before .before .before .before .before .before .before .pre .1 .1)
 
 slice-write-out-4 : tie.Need-slice-write-out-4
 slice-write-out-4 c = simp length-set (omega (arith, length-encode (c .before .before .before .before .before .before .before .before .before .args .bytes .now)))
 
-same-length : tie.Need-same-length
-same-length c = search needs
-
 returns-2 : tie.Need-returns-2
 returns-2 c =
     let p = c .before .before .before .before .before .before .before in
     one-stored (p .args .bytes .now) (p .args .out .now) _ _ 0 0 (c .before .before .letter-of .ensures) (c .letter-of2 .ensures) (omega arith) (p .pre .1 .0)
-
-same-length-2 : tie.Need-same-length-2
-same-length-2 c = search needs
 
 returns-3 : tie.Need-returns-3
 returns-3 c =
@@ -75,21 +54,21 @@ encode-rest-spec =
     tie.close
     (tie.spec
     returns
-    shared-slice-read-x
+    (λ c. search needs)
     letter-of-requires
     slice-write-out
-    mul-letter-of
+    (λ c. search needs)
     letter-of-requires-2
     slice-write-out-2
-    shared-slice-read-y
-    mul-letter-of-2
+    (λ c. search needs)
+    (λ c. search needs)
     add-letter-of
     letter-of-requires-3
     slice-write-out-3
-    mul-letter-of-3
+    (λ c. search needs)
     letter-of-requires-4
     slice-write-out-4
-    same-length
+    (λ c. search needs)
     returns-2
-    same-length-2
+    (λ c. search needs)
     returns-3)

@@ -18,27 +18,12 @@ Inv-loop table text i₀ i = all inAlphabet text ≡ all inAlphabet (drop i text
 abbrev μ-loop : tie.MeasureT-loop
 μ-loop table text i₀ i = length text - i
 
-loop-holds : tie.Need-loop-holds Inv-loop μ-loop
-loop-holds c = search needs
-
-shared-slice-read-sextet-of : tie.Need-shared-slice-read-sextet-of Inv-loop μ-loop
-shared-slice-read-sextet-of c = search needs
-
-sextet-of-requires : tie.Need-sextet-of-requires Inv-loop μ-loop
-sextet-of-requires c κs = search needs
-
 returns : tie.Need-returns Inv-loop μ-loop
 returns c =
     let p = c .before .before .before .before in
     let t = p .before .before .args .text .now in
     let i = p .loop .i in
     sym (p .loop .inv ∙ all-false inAlphabet t i (omega arith) (le-ltb (sextet (getD t i 0)) 64 (omega (arith, c .before .sextet-of .ensures))))
-
-add-i : tie.Need-add-i Inv-loop μ-loop
-add-i c = search needs
-
-loop-less : tie.Need-loop-less Inv-loop μ-loop
-loop-less c = search needs
 
 loop-again : tie.Need-loop-again Inv-loop μ-loop
 loop-again c =
@@ -58,11 +43,11 @@ all-in-alphabet-spec =
     (tie.spec
     Inv-loop
     μ-loop
-    loop-holds
-    shared-slice-read-sextet-of
-    sextet-of-requires
+    (λ c. search needs)
+    (λ c. search needs)
+    (λ c κs. search needs)
     returns
-    add-i
-    loop-less
+    (λ c. search needs)
+    (λ c. search needs)
     loop-again
     returns-2)

@@ -15,15 +15,6 @@ returns c = ends-0 (c .before .before .args .text .now) (omega arith)
 returns-2 : tie.Need-returns-2
 returns-2 c = ends-1 (c .before .before .before .args .text .now) (omega arith)
 
-sub-sextet-of : tie.Need-sub-sextet-of
-sub-sextet-of c = search needs
-
-shared-slice-read-sextet-of : tie.Need-shared-slice-read-sextet-of
-shared-slice-read-sextet-of c = search needs
-
-sextet-of-requires : tie.Need-sextet-of-requires
-sextet-of-requires c κs = search needs
-
 returns-3 : tie.Need-returns-3
 returns-3 c =
     let t = c .before .before .before .before .before .before .args .text .now in
@@ -40,8 +31,8 @@ has-canonical-end-spec =
     (tie.spec
     returns
     returns-2
-    sub-sextet-of
-    shared-slice-read-sextet-of
-    sextet-of-requires
+    (λ c. search needs)
+    (λ c. search needs)
+    (λ c κs. search needs)
     returns-3
     returns-4)

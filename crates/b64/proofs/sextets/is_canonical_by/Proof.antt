@@ -6,12 +6,6 @@ use borrow.Author.Needs.{needs}
 use Rattle.b64.proofs.sextets.is_canonical_by.Statement.{statement}
 use Rattle.b64.proofs.sextets.is_canonical_by.Tie as tie
 
-all-in-alphabet-requires : tie.Need-all-in-alphabet-requires
-all-in-alphabet-requires c κs = search needs
-
-has-canonical-end-requires : tie.Need-has-canonical-end-requires
-has-canonical-end-requires c κs = search needs
-
 returns : tie.Need-returns
 returns c =
     let p = c .before .before in
@@ -23,4 +17,4 @@ returns-2 c =
     sym (canonical-out (p .before .before .args .text .now) (sym (c .if1 .left) ∙ p .all-in-alphabet .ensures))
 
 pub is-canonical-by-spec : {M : Type 1} → statement M
-is-canonical-by-spec = tie.close (tie.spec all-in-alphabet-requires has-canonical-end-requires returns returns-2)
+is-canonical-by-spec = tie.close (tie.spec (λ c κs. search needs) (λ c κs. search needs) returns returns-2)

@@ -4,11 +4,8 @@ use borrow.Author.Needs.{needs}
 use Rattle.b64.proofs.sextets.sextet_of.Statement.{statement}
 use Rattle.b64.proofs.sextets.sextet_of.Tie as tie
 
-element-copy-out-result : tie.Need-element-copy-out-result
-element-copy-out-result c = search needs
-
 returns : tie.Need-returns
 returns c = c .before .pre (c .before .args .c) (search needs)
 
 pub sextet-of-spec : {M : Type 1} → statement M
-sextet-of-spec = tie.close (tie.spec element-copy-out-result returns)
+sextet-of-spec = tie.close (tie.spec (λ c. search needs) returns)

@@ -10,19 +10,10 @@ use borrow.Author.Needs.{needs}
 use Rattle.decimal.proofs.reader.negated.Statement.{statement}
 use Rattle.decimal.proofs.reader.negated.Tie as tie
 
-sub-complement : tie.Need-sub-complement
-sub-complement c = search needs
-
-cast-complement : tie.Need-cast-complement
-cast-complement c = search needs
-
-complement-requires : tie.Need-complement-requires
-complement-requires c κs = search needs
-
 returns : tie.Need-returns
 returns c =
     let n = c .before .args .n in
     read-back _ (c .complement .ok) ∙ c .complement .ensures ∙ ap complementOf (toZ-pos w64 (n - 1) (omega arith)) ∙ negated-is n (c .before .pre .0)
 
 pub negated-spec : {M : Type 1} → statement M
-negated-spec = tie.close (tie.spec sub-complement cast-complement complement-requires returns)
+negated-spec = tie.close (tie.spec (λ c. search needs) (λ c. search needs) (λ c κs. search needs) returns)

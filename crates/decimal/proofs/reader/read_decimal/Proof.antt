@@ -13,17 +13,8 @@ use Rattle.decimal.proofs.reader.read_decimal.Tie as tie
 answer : (c : tie.After-read-signed) (r : Signed) → c .read-signed .result ≡ r → decimalAnswer r ≡ decimalReading (now (c .before .before .args .text))
 answer c r e = ap decimalAnswer (sym e ∙ c .read-signed .ensures)
 
-read-signed-requires : tie.Need-read-signed-requires
-read-signed-requires c κs = search needs
-
 enum-told : tie.Need-enum-told
 enum-told c = search needs
-
-enum-told-2 : tie.Need-enum-told-2
-enum-told-2 c = search needs
-
-enum-known-value : tie.Need-enum-known-value
-enum-known-value c = search needs
 
 returns : tie.Need-returns
 returns c = answer (c .before .before) _ (c .enum-told .given .1)
@@ -39,10 +30,10 @@ pub read-decimal-spec : {M : Type 1} → statement M
 read-decimal-spec =
     tie.close
     (tie.spec
-    read-signed-requires
+    (λ c κs. search needs)
     enum-told
-    enum-told-2
-    enum-known-value
+    (λ c. search needs)
+    (λ c. search needs)
     returns
     returns-2
     returns-3)

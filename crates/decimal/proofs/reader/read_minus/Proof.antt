@@ -14,17 +14,8 @@ said : (c : tie.After-read-unsigned) (r : Limited) → c .read-unsigned .result 
     → r ≡ unsignedReading 9223372036854775808 (now (c .before .before .args .text))
 said c r e = sym e ∙ c .read-unsigned .ensures
 
-read-unsigned-requires : tie.Need-read-unsigned-requires
-read-unsigned-requires c κs = search needs
-
 enum-told : tie.Need-enum-told
 enum-told c = search needs
-
-enum-told-2 : tie.Need-enum-told-2
-enum-told-2 c = search needs
-
-enum-known-n : tie.Need-enum-known-n
-enum-known-n c = search needs
 
 negated-requires : tie.Need-negated-requires
 negated-requires c κs =
@@ -50,10 +41,10 @@ pub read-minus-spec : {M : Type 1} → statement M
 read-minus-spec =
     tie.close
     (tie.spec
-    read-unsigned-requires
+    (λ c κs. search needs)
     enum-told
-    enum-told-2
-    enum-known-n
+    (λ c. search needs)
+    (λ c. search needs)
     negated-requires
     returns
     returns-2

@@ -13,21 +13,6 @@ use Rattle.decimal.proofs.reader.read_signed.Tie as tie
 returns : tie.Need-returns
 returns c = ap signed (sym (numeral-none least greatest _ (c .if1 .taken)))
 
-shared-slice-read-if2 : tie.Need-shared-slice-read-if2
-shared-slice-read-if2 c = search needs
-
-sub-read-minus : tie.Need-sub-read-minus
-sub-read-minus c = search needs
-
-part-read-minus-start : tie.Need-part-read-minus-start
-part-read-minus-start c = search needs
-
-part-read-minus-end : tie.Need-part-read-minus-end
-part-read-minus-end c = search needs
-
-read-minus-requires : tie.Need-read-minus-requires
-read-minus-requires c κs = search needs
-
 returns-2 : tie.Need-returns-2
 returns-2 c =
     let k = c .before .before .before .before in
@@ -36,9 +21,6 @@ returns-2 c =
     ∙ ap (λ l. minus (unsignedReading 9223372036854775808 l)) (tail-part s 1)
     ∙ signed-minus (unsignedReading 9223372036854775808 (drop 1 s))
     ∙ ap signed (numeral-minus least 9223372036854775808 down-least 9223372036854775807 s (k .if1 .left) (c .before .before .if2 .taken))
-
-read-plain-requires : tie.Need-read-plain-requires
-read-plain-requires c κs = search needs
 
 returns-3 : tie.Need-returns-3
 returns-3 c =
@@ -52,11 +34,11 @@ read-signed-spec =
     tie.close
     (tie.spec
     returns
-    shared-slice-read-if2
-    sub-read-minus
-    part-read-minus-start
-    part-read-minus-end
-    read-minus-requires
+    (λ c. search needs)
+    (λ c. search needs)
+    (λ c. search needs)
+    (λ c. search needs)
+    (λ c κs. search needs)
     returns-2
-    read-plain-requires
+    (λ c κs. search needs)
     returns-3)

@@ -6,19 +6,13 @@ use Rattle.decimal.specs.DecimalSteps.{unsignedReading}
 use Rattle.decimal.proofs.reader.read_unsigned.Statement.{statement}
 use Rattle.decimal.proofs.reader.read_unsigned.Tie as tie
 
-is-unsigned-requires : tie.Need-is-unsigned-requires
-is-unsigned-requires c κs = search needs
-
 returns : tie.Need-returns
 unfolding unsignedReading
 returns c = rw (sym (c .before .is-unsigned .ensures) ∙ not-true _ (c .if1 .taken))
-
-value-up-to-requires : tie.Need-value-up-to-requires
-value-up-to-requires c κs = search needs
 
 returns-2 : tie.Need-returns-2
 unfolding unsignedReading
 returns-2 c = rw (sym (c .before .before .is-unsigned .ensures) ∙ not-false _ (c .before .if1 .left)) (c .value-up-to .ensures)
 
 pub read-unsigned-spec : {M : Type 1} → statement M
-read-unsigned-spec = tie.close (tie.spec is-unsigned-requires returns value-up-to-requires returns-2)
+read-unsigned-spec = tie.close (tie.spec (λ c κs. search needs) returns (λ c κs. search needs) returns-2)

@@ -38,29 +38,8 @@ returns : tie.Need-returns
 unfolding limitedReading
 returns c = ap limited (sym (numeral-none _ _ _ (c .if1 .taken)))
 
-shared-slice-read-if2 : tie.Need-shared-slice-read-if2
-shared-slice-read-if2 c = search needs
-
-sub-read-unsigned : tie.Need-sub-read-unsigned
-sub-read-unsigned c = search needs
-
-part-read-unsigned-start : tie.Need-part-read-unsigned-start
-part-read-unsigned-start c = search needs
-
-part-read-unsigned-end : tie.Need-part-read-unsigned-end
-part-read-unsigned-end c = search needs
-
-read-unsigned-requires : tie.Need-read-unsigned-requires
-read-unsigned-requires c κs = search needs
-
 enum-told : tie.Need-enum-told
 enum-told c = search needs
-
-enum-told-2 : tie.Need-enum-told-2
-enum-told-2 c = search needs
-
-enum-told-3 : tie.Need-enum-told-3
-enum-told-3 c = search needs
 
 returns-2 : tie.Need-returns-2
 unfolding answer
@@ -75,18 +54,6 @@ unfolding answer
 returns-4 c =
     let r = c .before .before in
     sym (ap limited (minus-none _ _ (sym (r .read-unsigned .ensures) ∙ c .enum-told3 .given .1))) ∙ after-minus r _ (c .enum-told3 .given .1)
-
-read-unsigned-requires-2 : tie.Need-read-unsigned-requires-2
-read-unsigned-requires-2 c κs = search needs
-
-enum-told-4 : tie.Need-enum-told-4
-enum-told-4 c = search needs
-
-enum-told-5 : tie.Need-enum-told-5
-enum-told-5 c = search needs
-
-enum-known-n : tie.Need-enum-known-n
-enum-known-n c = search needs
 
 returns-5 : tie.Need-returns-5
 unfolding answer
@@ -109,21 +76,21 @@ read-within-spec =
     tie.close
     (tie.spec
     returns
-    shared-slice-read-if2
-    sub-read-unsigned
-    part-read-unsigned-start
-    part-read-unsigned-end
-    read-unsigned-requires
+    (λ c. search needs)
+    (λ c. search needs)
+    (λ c. search needs)
+    (λ c. search needs)
+    (λ c κs. search needs)
     enum-told
-    enum-told-2
-    enum-told-3
+    (λ c. search needs)
+    (λ c. search needs)
     returns-2
     returns-3
     returns-4
-    read-unsigned-requires-2
-    enum-told-4
-    enum-told-5
-    enum-known-n
+    (λ c κs. search needs)
+    (λ c. search needs)
+    (λ c. search needs)
+    (λ c. search needs)
     returns-5
     returns-6
     returns-7

@@ -6,19 +6,10 @@ use Rattle.decimal.proofs.SignSteps.{text-below, text-other}
 use Rattle.decimal.proofs.writer.decimal_len.Statement.{statement}
 use Rattle.decimal.proofs.writer.decimal_len.Tie as tie
 
-magnitude-requires : tie.Need-magnitude-requires
-magnitude-requires c κs = search needs
-
-count-digits-requires : tie.Need-count-digits-requires
-count-digits-requires c κs = search needs
-
 add-t6 : tie.Need-add-t6
 add-t6 c =
     let m = c .before .before .magnitude in
     omega (arith, length-digits 19 (m .result) (omega (arith, m .ok)))
-
-count-digits-requires-2 : tie.Need-count-digits-requires-2
-count-digits-requires-2 c κs = search needs
 
 returns : tie.Need-returns
 returns c =
@@ -34,9 +25,9 @@ pub decimal-len-spec : {M : Type 1} → statement M
 decimal-len-spec =
     tie.close
     (tie.spec
-    magnitude-requires
-    count-digits-requires
+    (λ c κs. search needs)
+    (λ c κs. search needs)
     add-t6
-    count-digits-requires-2
+    (λ c κs. search needs)
     returns
     returns-2)

@@ -28,9 +28,6 @@ size c =
     rw (read-back (c .complement .result) (c .complement .ok), flipped c)
     (size-below (c .before .before .args .value) (negative (c .before)))
 
-complement-requires : tie.Need-complement-requires
-complement-requires c κs = search needs
-
 cast-result : tie.Need-cast-result
 cast-result c =
     casts (c .complement .result) (c .complement .ok) (rw (flipped c) (below (c .before .before .args .value) (negative (c .before))))
@@ -46,9 +43,6 @@ cast-result-2 c =
 returns : tie.Need-returns
 returns c = size c
 
-returns-2 : tie.Need-returns-2
-returns-2 c = search needs
-
 pub magnitude-spec : {M : Type 1} → statement M
 magnitude-spec =
-    tie.close (tie.spec complement-requires cast-result add-result cast-result-2 returns returns-2)
+    tie.close (tie.spec (λ c κs. search needs) cast-result add-result cast-result-2 returns (λ c. search needs))

@@ -25,9 +25,6 @@ plain-text c =
     let s = c .before .before .before in
     text-other (s .args .value) (s .fits .value .sfits) _ (c .before .magnitude .ensures) (c .if1 .left)
 
-magnitude-requires : tie.Need-magnitude-requires
-magnitude-requires c κs = search needs
-
 slice-write-buf : tie.Need-slice-write-buf
 slice-write-buf c = omega (arith, room c)
 
@@ -36,9 +33,6 @@ sub-put-digits c = simp length-set (omega (arith, room c))
 
 part-put-digits-start : tie.Need-part-put-digits-start
 part-put-digits-start c = simp length-set (omega (arith, room c))
-
-part-put-digits-end : tie.Need-part-put-digits-end
-part-put-digits-end c = search needs
 
 put-digits-requires : tie.Need-put-digits-requires
 put-digits-requires c κs = rw tail-part (simp (length-drop, length-set) (omega (arith, room (c .before))))
@@ -66,9 +60,6 @@ returns c =
           ∙ ap (λ l. l ++ drop (length l) buf) (sym (text t)),
     )
 
-same-length-2 : tie.Need-same-length-2
-same-length-2 c = search needs
-
 returns-2 : tie.Need-returns-2
 returns-2 c = rw (plain-text (c .before .before .before .before)) (c .before .before .put-digits2 .ensures)
 
@@ -76,15 +67,15 @@ pub put-decimal-spec : {M : Type 1} → statement M
 put-decimal-spec =
     tie.close
     (tie.spec
-    magnitude-requires
+    (λ c κs. search needs)
     slice-write-buf
     sub-put-digits
     part-put-digits-start
-    part-put-digits-end
+    (λ c. search needs)
     put-digits-requires
     add-result
     put-digits-requires-2
     same-length
     returns
-    same-length-2
+    (λ c. search needs)
     returns-2)

@@ -20,9 +20,6 @@ Inv-loop value buf₀ count i₀ rest₀ buf i rest =
 abbrev μ-loop : tie.MeasureT-loop
 μ-loop value buf₀ count i₀ rest₀ buf i rest = rest
 
-count-digits-requires : tie.Need-count-digits-requires Inv-loop μ-loop
-count-digits-requires c κs = search needs
-
 sub-i : tie.Need-sub-i Inv-loop μ-loop
 sub-i c = omega (arith, length-pos (c .before .before .args .value))
 
@@ -77,7 +74,7 @@ put-digits-spec =
     (tie.spec
     Inv-loop
     μ-loop
-    count-digits-requires
+    (λ c κs. search needs)
     sub-i
     loop-holds
     cast-buf

@@ -4,20 +4,17 @@ use mathlib.Core.Path.{_≡_, sym, _∙_}
 use native.Mathlib.Nat.{add-zero}
 use native.Mathlib.Omega.{arith}
 use lib.ListN.{length, drop, length-drop, drop-of-length-le}
-use Rattle.fast_path.specs.Walk.{starts}
-use Rattle.fast_path.proofs.Runs.{starts-short, starts-same, starts-other}
+use Rattle.text.specs.Text.{startsWith}
+use Rattle.text.proofs.Starts.{starts-short, starts-same, starts-other}
 use borrow.Author.Needs.{needs}
 use Rattle.fast_path.proofs.begin.same_at.Statement.{statement}
 use Rattle.fast_path.proofs.begin.same_at.Tie as tie
 
 abbrev Inv-loop : tie.InvT-loop
-Inv-loop s at name i₀ i = (i ≤ length name) × (starts name (drop at s) ≡ starts (drop i name) (drop (at + i) s))
+Inv-loop s at name i₀ i = (i ≤ length name) × (startsWith name (drop at s) ≡ startsWith (drop i name) (drop (at + i) s))
 
 abbrev μ-loop : tie.MeasureT-loop
 μ-loop s at name i₀ i = length name - i
-
-sub-if1 : tie.Need-sub-if1 Inv-loop μ-loop
-sub-if1 c = search needs
 
 returns : tie.Need-returns Inv-loop μ-loop
 returns c = sym (starts-short (c .before .args .name .now) (drop (c .before .args .at) (c .before .args .s .now)) (omega (arith, length-drop (c .before .args .at) (c .before .args .s .now))))
@@ -25,26 +22,11 @@ returns c = sym (starts-short (c .before .args .name .now) (drop (c .before .arg
 loop-holds : tie.Need-loop-holds Inv-loop μ-loop
 loop-holds c = (omega arith, rw (add-zero))
 
-add-if2 : tie.Need-add-if2 Inv-loop μ-loop
-add-if2 c = search needs
-
-shared-slice-read-if2 : tie.Need-shared-slice-read-if2 Inv-loop μ-loop
-shared-slice-read-if2 c = search needs
-
-shared-slice-read-if2-2 : tie.Need-shared-slice-read-if2-2 Inv-loop μ-loop
-shared-slice-read-if2-2 c = search needs
-
 returns-2 : tie.Need-returns-2 Inv-loop μ-loop
 returns-2 c =
     let p = c .before .before .before .before in
     let a = p .before .before .args in
     sym (p .loop .inv .1 ∙ starts-other (a .name .now) (a .s .now) (p .loop .i) (a .at + p .loop .i) (omega arith) (omega arith) (c .if2 .taken))
-
-add-i : tie.Need-add-i Inv-loop μ-loop
-add-i c = search needs
-
-loop-less : tie.Need-loop-less Inv-loop μ-loop
-loop-less c = search needs
 
 loop-again : tie.Need-loop-again Inv-loop μ-loop
 loop-again c =
@@ -65,14 +47,14 @@ same-at-spec =
     (tie.spec
     Inv-loop
     μ-loop
-    sub-if1
+    (λ c. search needs)
     returns
     loop-holds
-    add-if2
-    shared-slice-read-if2
-    shared-slice-read-if2-2
+    (λ c. search needs)
+    (λ c. search needs)
+    (λ c. search needs)
     returns-2
-    add-i
-    loop-less
+    (λ c. search needs)
+    (λ c. search needs)
     loop-again
     returns-3)

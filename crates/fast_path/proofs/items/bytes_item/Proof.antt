@@ -3,21 +3,12 @@ use mathlib.Core.Path.{sym, _∙_}
 use mathlib.Core.List.{_∷_}
 use native.Mathlib.Omega.{arith}
 use lib.ListN.{drop, length-drop}
-use Rattle.fast_path.proofs.Runs.{starts-text}
+use Rattle.text.proofs.Starts.{starts-text}
 use Rattle.fast_path.proofs.Chains.{bytes-there}
 use Rattle.fast_path.proofs.StringLaws.{bytes-none}
 use borrow.Author.Needs.{needs}
 use Rattle.fast_path.proofs.items.bytes_item.Statement.{statement}
 use Rattle.fast_path.proofs.items.bytes_item.Tie as tie
-
-begins-requires : tie.Need-begins-requires
-begins-requires c κs = search needs
-
-add-written-bytes : tie.Need-add-written-bytes
-add-written-bytes c = search needs
-
-add-written-bytes-2 : tie.Need-add-written-bytes-2
-add-written-bytes-2 c = search needs
 
 written-bytes-requires : tie.Need-written-bytes-requires
 written-bytes-requires c κs =
@@ -26,9 +17,6 @@ written-bytes-requires c κs =
     let a = st .args in
     let t = starts-text (a .separator ∷ a .name .now) (drop (a .at) (a .s .now)) (sym (b .begins .ensures) ∙ c .before .if1 .taken) in
     ((omega (arith, length-drop (a .at) (a .s .now)), st .pre .0 .1), st .pre .1)
-
-same-length : tie.Need-same-length
-same-length c = search needs
 
 returns : tie.Need-returns
 returns c =
@@ -47,10 +35,10 @@ pub bytes-item-spec : {M : Type 1} → statement M
 bytes-item-spec =
     tie.close
     (tie.spec
-    begins-requires
-    add-written-bytes
-    add-written-bytes-2
+    (λ c κs. search needs)
+    (λ c. search needs)
+    (λ c. search needs)
     written-bytes-requires
-    same-length
+    (λ c. search needs)
     returns
     returns-2)

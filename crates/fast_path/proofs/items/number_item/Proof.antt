@@ -5,25 +5,10 @@ use borrow.Author.Needs.{needs}
 use Rattle.fast_path.proofs.items.number_item.Statement.{statement}
 use Rattle.fast_path.proofs.items.number_item.Tie as tie
 
-begins-requires : tie.Need-begins-requires
-begins-requires c κs = search needs
-
-add-written-number : tie.Need-add-written-number
-add-written-number c = search needs
-
-add-written-number-2 : tie.Need-add-written-number-2
-add-written-number-2 c = search needs
-
-written-number-requires : tie.Need-written-number-requires
-written-number-requires c κs = search needs
-
 returns : tie.Need-returns
 returns c =
     let a = c .before .before .before .before .before .args in
     rw (number-there (a .rule) (a .name .now) (a .separator) (a .s .now) (a .at) (sym (c .before .before .begins .ensures) ∙ c .before .if1 .taken)) (c .written-number .ensures)
-
-left-out-requires : tie.Need-left-out-requires
-left-out-requires c κs = search needs
 
 returns-2 : tie.Need-returns-2
 returns-2 c =
@@ -35,10 +20,10 @@ pub number-item-spec : {M : Type 1} → statement M
 number-item-spec =
     tie.close
     (tie.spec
-    begins-requires
-    add-written-number
-    add-written-number-2
-    written-number-requires
+    (λ c κs. search needs)
+    (λ c. search needs)
+    (λ c. search needs)
+    (λ c κs. search needs)
     returns
-    left-out-requires
+    (λ c κs. search needs)
     returns-2)

@@ -5,14 +5,8 @@ use borrow.Author.Needs.{needs}
 use Rattle.fast_path.proofs.items.written_bytes.Statement.{statement}
 use Rattle.fast_path.proofs.items.written_bytes.Tie as tie
 
-decode-run-requires : tie.Need-decode-run-requires
-decode-run-requires c κs = search needs
-
 enum-told : tie.Need-enum-told
 enum-told c = search needs
-
-enum-known-next : tie.Need-enum-known-next
-enum-known-next c = search needs
 
 sub-n : tie.Need-sub-n
 sub-n c =
@@ -21,9 +15,6 @@ sub-n c =
     let h = rw (k .next .given .1) at (d .decode-run .ensures) in
     let a = d .before .before .before .before .args in
     run-ahead (a .rule) (a .s .now) (a .at) (a .out .now) (a .from) _ _ _ h
-
-same-length : tie.Need-same-length
-same-length c = search needs
 
 returns : tie.Need-returns
 returns c =
@@ -34,12 +25,6 @@ returns c =
     let a = st .args in
     bytes-empty (a .rule) (a .s .now) (a .at) (a .out .now) (a .from) _ _ _ h (c .if1 .taken)
 
-is-size-requires : tie.Need-is-size-requires
-is-size-requires c κs = search needs
-
-same-length-2 : tie.Need-same-length-2
-same-length-2 c = search needs
-
 returns-2 : tie.Need-returns-2
 returns-2 c =
     let k = c .before .before .before .before in
@@ -49,18 +34,12 @@ returns-2 c =
     let a = st .args in
     bytes-sized (a .rule) (a .s .now) (a .at) (a .out .now) (a .from) _ _ _ h (st .pre .0 .0) (c .before .before .if1 .left) (sym (c .before .is-size .ensures) ∙ c .if2 .taken)
 
-same-length-3 : tie.Need-same-length-3
-same-length-3 c = search needs
-
 returns-3 : tie.Need-returns-3
 returns-3 c =
     let d = c .before .before .before .before in
     let st = d .before .before .before .before in
     let a = st .args in
     bytes-no (a .rule) (a .s .now) (a .at) (a .out .now) (a .from) (st .pre .0 .1) (rw (c .enum-told .given .1) at (d .decode-run .ensures))
-
-same-length-4 : tie.Need-same-length-4
-same-length-4 c = search needs
 
 returns-4 : tie.Need-returns-4
 returns-4 c =
@@ -75,16 +54,16 @@ pub written-bytes-spec : {M : Type 1} → statement M
 written-bytes-spec =
     tie.close
     (tie.spec
-    decode-run-requires
+    (λ c κs. search needs)
     enum-told
-    enum-known-next
+    (λ c. search needs)
     sub-n
-    same-length
+    (λ c. search needs)
     returns
-    is-size-requires
-    same-length-2
+    (λ c κs. search needs)
+    (λ c. search needs)
     returns-2
-    same-length-3
+    (λ c. search needs)
     returns-3
-    same-length-4
+    (λ c. search needs)
     returns-4)

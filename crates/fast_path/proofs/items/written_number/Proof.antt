@@ -5,20 +5,8 @@ use borrow.Author.Needs.{needs}
 use Rattle.fast_path.proofs.items.written_number.Statement.{statement}
 use Rattle.fast_path.proofs.items.written_number.Tie as tie
 
-number-requires : tie.Need-number-requires
-number-requires c κs = search needs
-
 enum-told : tie.Need-enum-told
 enum-told c = search needs
-
-enum-known-n : tie.Need-enum-known-n
-enum-known-n c = search needs
-
-in-range-requires : tie.Need-in-range-requires
-in-range-requires c κs = search needs
-
-is-written-requires : tie.Need-is-written-requires
-is-written-requires c κs = search needs
 
 returns : tie.Need-returns
 returns c =
@@ -47,11 +35,11 @@ pub written-number-spec : {M : Type 1} → statement M
 written-number-spec =
     tie.close
     (tie.spec
-    number-requires
+    (λ c κs. search needs)
     enum-told
-    enum-known-n
-    in-range-requires
-    is-written-requires
+    (λ c. search needs)
+    (λ c κs. search needs)
+    (λ c κs. search needs)
     returns
     returns-2
     returns-3

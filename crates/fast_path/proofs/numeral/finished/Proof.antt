@@ -7,12 +7,6 @@ use Rattle.fast_path.proofs.numeral.finished.Tie as tie
 returns : tie.Need-returns
 returns c = numeral-none (c .before .args .s .now) (c .before .args .at) _ _ (c .before .pre .0) (c .before .pre .1) (c .if1 .taken)
 
-shared-slice-read-if2 : tie.Need-shared-slice-read-if2
-shared-slice-read-if2 c = search needs
-
-add-if3 : tie.Need-add-if3
-add-if3 c = search needs
-
 returns-2 : tie.Need-returns-2
 returns-2 c =
     let p = c .before .before .before in
@@ -30,9 +24,6 @@ returns-4 c =
     let st = c .before .before .before .before in
     numeral-large (st .args .s .now) (st .args .at) _ _ (st .pre .0) (st .pre .1) (c .if4 .taken)
 
-cast-t10 : tie.Need-cast-t10
-cast-t10 c = search needs
-
 returns-5 : tie.Need-returns-5
 returns-5 c =
     let p = c .before .before .before in
@@ -44,10 +35,10 @@ finished-spec =
     tie.close
     (tie.spec
     returns
-    shared-slice-read-if2
-    add-if3
+    (λ c. search needs)
+    (λ c. search needs)
     returns-2
     returns-3
     returns-4
-    cast-t10
+    (λ c. search needs)
     returns-5)

@@ -19,17 +19,11 @@ returns c = numeral-past (c .before .before .args .s .now) (c .before .before .a
 loop-holds : tie.Need-loop-holds Inv-loop μ-loop
 loop-holds c = (omega arith, counting-start (c .before .before .args .s .now) (c .before .before .args .at) (omega arith))
 
-shared-slice-read-c : tie.Need-shared-slice-read-c Inv-loop μ-loop
-shared-slice-read-c c = search needs
-
 finished-requires : tie.Need-finished-requires Inv-loop μ-loop
 finished-requires c κs =
     let p = c .before .before .before in
     let q = p .before in
     (q .if1 .left, counting-stop _ _ _ _ (p .loop .inv .1) (below-digits _ (c .if2 .taken)))
-
-returns-2 : tie.Need-returns-2 Inv-loop μ-loop
-returns-2 c = search needs
 
 finished-requires-2 : tie.Need-finished-requires-2 Inv-loop μ-loop
 finished-requires-2 c κs =
@@ -37,29 +31,11 @@ finished-requires-2 c κs =
     let q = p .before in
     (q .if1 .left, counting-stop _ _ _ _ (p .loop .inv .1) (above-digits _ (c .if3 .taken)))
 
-returns-3 : tie.Need-returns-3 Inv-loop μ-loop
-returns-3 c = search needs
-
 returns-4 : tie.Need-returns-4 Inv-loop μ-loop
 returns-4 c =
     let e = c .before .before in
     let p = e .before .before .before in
     counting-large _ _ _ _ (p .loop .inv .1) (omega arith) (e .if2 .left) (c .before .if3 .left) (c .if4 .taken)
-
-mul-n : tie.Need-mul-n Inv-loop μ-loop
-mul-n c = search needs
-
-wide-requires : tie.Need-wide-requires Inv-loop μ-loop
-wide-requires c κs = search needs
-
-add-n : tie.Need-add-n Inv-loop μ-loop
-add-n c = search needs
-
-add-i : tie.Need-add-i Inv-loop μ-loop
-add-i c = search needs
-
-loop-less : tie.Need-loop-less Inv-loop μ-loop
-loop-less c = search needs
 
 loop-again : tie.Need-loop-again Inv-loop μ-loop
 loop-again c =
@@ -73,9 +49,6 @@ finished-requires-3 c κs =
     let p = c .before in
     (p .before .if1 .left, counting-end _ _ _ _ (p .loop .inv .1) (c .loop-test .left))
 
-returns-5 : tie.Need-returns-5 Inv-loop μ-loop
-returns-5 c = search needs
-
 pub number-spec : {M : Type 1} → statement M
 number-spec =
     tie.close
@@ -84,17 +57,17 @@ number-spec =
     μ-loop
     returns
     loop-holds
-    shared-slice-read-c
+    (λ c. search needs)
     finished-requires
-    returns-2
+    (λ c. search needs)
     finished-requires-2
-    returns-3
+    (λ c. search needs)
     returns-4
-    mul-n
-    wide-requires
-    add-n
-    add-i
-    loop-less
+    (λ c. search needs)
+    (λ c κs. search needs)
+    (λ c. search needs)
+    (λ c. search needs)
+    (λ c. search needs)
     loop-again
     finished-requires-3
-    returns-5)
+    (λ c. search needs))

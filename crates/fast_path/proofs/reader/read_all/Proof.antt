@@ -4,26 +4,8 @@ use borrow.Author.Needs.{needs}
 use Rattle.fast_path.proofs.reader.read_all.Statement.{statement}
 use Rattle.fast_path.proofs.reader.read_all.Tie as tie
 
-slice-aggregate-walk-in : tie.Need-slice-aggregate-walk-in
-slice-aggregate-walk-in c = search needs
-
-walk-in-requires : tie.Need-walk-in-requires
-walk-in-requires c κs = search needs
-
 enum-told : tie.Need-enum-told
 enum-told c = search needs
-
-read-requires : tie.Need-read-requires
-read-requires c κs = search needs
-
-refused-requires : tie.Need-refused-requires
-refused-requires c κs = search needs
-
-enum-known-c : tie.Need-enum-known-c
-enum-known-c c = search needs
-
-slice-aggregate-store : tie.Need-slice-aggregate-store
-slice-aggregate-store c = search needs
 
 store-requires : tie.Need-store-requires
 store-requires c κs =
@@ -39,9 +21,6 @@ returns c =
     let a = w .before .before .before .before .args in
     all-refused (a .s .now) (a .buf .now) (a .at) (rw (t .enum-told .given .1) at (w .walk-in .ensures)) _ _ (c .before .read .ensures) (c .refused .ensures)
 
-same-length : tie.Need-same-length
-same-length c = search needs
-
 returns-2 : tie.Need-returns-2
 returns-2 c =
     let r = c .before .before in
@@ -55,14 +34,14 @@ pub read-all-spec : {M : Type 1} → statement M
 read-all-spec =
     tie.close
     (tie.spec
-    slice-aggregate-walk-in
-    walk-in-requires
+    (λ c. search needs)
+    (λ c κs. search needs)
     enum-told
-    read-requires
-    refused-requires
-    enum-known-c
-    slice-aggregate-store
+    (λ c κs. search needs)
+    (λ c κs. search needs)
+    (λ c. search needs)
+    (λ c. search needs)
     store-requires
     returns
-    same-length
+    (λ c. search needs)
     returns-2)

@@ -4,15 +4,6 @@ use borrow.Author.Needs.{needs}
 use Rattle.fast_path.proofs.run.decode_run.Statement.{statement}
 use Rattle.fast_path.proofs.run.decode_run.Tie as tie
 
-groups-requires : tie.Need-groups-requires
-groups-requires c κs = search needs
-
-tail-requires : tie.Need-tail-requires
-tail-requires c κs = search needs
-
-same-length : tie.Need-same-length
-same-length c = search needs
-
 returns : tie.Need-returns
 returns c =
     let t = c .before .before in
@@ -21,4 +12,4 @@ returns c =
     reached-run (g .s .now) (g .at) (g .out .now) (g .from) _ (t .tail .last .1 .1 .1 .0) _ _ (h .groups .ensures .0) (t .tail .result) (t .tail .ensures)
 
 pub decode-run-spec : {M : Type 1} → statement M
-decode-run-spec = tie.close (tie.spec groups-requires tail-requires same-length returns)
+decode-run-spec = tie.close (tie.spec (λ c κs. search needs) (λ c κs. search needs) (λ c. search needs) returns)

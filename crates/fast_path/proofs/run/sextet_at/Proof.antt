@@ -4,18 +4,9 @@ use borrow.Author.Needs.{needs}
 use Rattle.fast_path.proofs.run.sextet_at.Statement.{statement}
 use Rattle.fast_path.proofs.run.sextet_at.Tie as tie
 
-shared-slice-read-sextet-of : tie.Need-shared-slice-read-sextet-of
-shared-slice-read-sextet-of c = search needs
-
-sextet-of-requires : tie.Need-sextet-of-requires
-sextet-of-requires c κs = search needs
-
-returns : tie.Need-returns
-returns c = search needs
-
 returns-2 : tie.Need-returns-2
 returns-2 c = sextet-past (c .before .before .args .s .now) (c .before .before .args .i) (c .if1 .left)
 
 pub sextet-at-spec : {M : Type 1} → statement M
 sextet-at-spec =
-    tie.close (tie.spec shared-slice-read-sextet-of sextet-of-requires returns returns-2)
+    tie.close (tie.spec (λ c. search needs) (λ c κs. search needs) (λ c. search needs) returns-2)

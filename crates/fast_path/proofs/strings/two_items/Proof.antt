@@ -5,17 +5,8 @@ use borrow.Author.Needs.{needs}
 use Rattle.fast_path.proofs.strings.two_items.Statement.{statement}
 use Rattle.fast_path.proofs.strings.two_items.Tie as tie
 
-bytes-item-requires : tie.Need-bytes-item-requires
-bytes-item-requires c κs = search needs
-
 enum-told : tie.Need-enum-told
 enum-told c = search needs
-
-enum-known-next : tie.Need-enum-known-next
-enum-known-next c = search needs
-
-second-separator-requires : tie.Need-second-separator-requires
-second-separator-requires c κs = search needs
 
 bytes-item-requires-2 : tie.Need-bytes-item-requires-2
 bytes-item-requires-2 c κs =
@@ -26,23 +17,11 @@ bytes-item-requires-2 c κs =
     let z = stored-size _ _ _ _ _ _ _ _ _ h (omega (arith, st .pre .0 .1)) in
     ((h .inside, omega (arith, z, h .end-is, h .small, st .pre .0 .1)), st .pre .1)
 
-enum-told-2 : tie.Need-enum-told-2
-enum-told-2 c = search needs
-
-enum-known-last : tie.Need-enum-known-last
-enum-known-last c = search needs
-
-same-length : tie.Need-same-length
-same-length c = search needs
-
 returns : tie.Need-returns
 returns c =
     let b = c .before .before .before .before in
     let a = b .before .before .before .before .before .before .args in
     no-first (a .a) (a .a-name .now) (a .b) (a .b-name .now) (a .pieces) (a .separator) (a .s .now) (a .at) (a .out .now) (a .from) (rw (c .enum-told .given .1) at (b .bytes-item .ensures))
-
-same-length-2 : tie.Need-same-length-2
-same-length-2 c = search needs
 
 returns-2 : tie.Need-returns-2
 returns-2 c =
@@ -54,9 +33,6 @@ returns-2 c =
     let h = rw (n .next .given .1) at (b .bytes-item .ensures) in
     no-second (a .a) (a .a-name .now) (a .b) (a .b-name .now) (a .pieces) (a .separator) (a .s .now) (a .at) (a .out .now) (a .from) _ _ _ _ h _ (m .second-separator .ensures)
     (rw (c .enum-told2 .given .1) at (d .bytes-item2 .ensures))
-
-same-length-3 : tie.Need-same-length-3
-same-length-3 c = search needs
 
 returns-3 : tie.Need-returns-3
 returns-3 c =
@@ -76,16 +52,16 @@ pub two-items-spec : {M : Type 1} → statement M
 two-items-spec =
     tie.close
     (tie.spec
-    bytes-item-requires
+    (λ c κs. search needs)
     enum-told
-    enum-known-next
-    second-separator-requires
+    (λ c. search needs)
+    (λ c κs. search needs)
     bytes-item-requires-2
-    enum-told-2
-    enum-known-last
-    same-length
+    (λ c. search needs)
+    (λ c. search needs)
+    (λ c. search needs)
     returns
-    same-length-2
+    (λ c. search needs)
     returns-2
-    same-length-3
+    (λ c. search needs)
     returns-3)

@@ -9,17 +9,8 @@ use Rattle.fast_path.proofs.walk.after_id.Tie as tie
 returns : tie.Need-returns
 returns c = rw (c .if1 .taken)
 
-limits-of-requires : tie.Need-limits-of-requires
-limits-of-requires c κs = search needs
-
-head-at-requires : tie.Need-head-at-requires
-head-at-requires c κs = search needs
-
 enum-told : tie.Need-enum-told
 enum-told c = search needs
-
-enum-known-fields : tie.Need-enum-known-fields
-enum-known-fields c = search needs
 
 with-strings-requires : tie.Need-with-strings-requires
 with-strings-requires c κs =
@@ -34,9 +25,6 @@ returns-2 c =
     let h = c .before .before in
     after-none _ _ (h .before .before .if1 .left) _ (rw (c .enum-told .given .1) at (h .head-at .ensures))
 
-same-length : tie.Need-same-length
-same-length c = search needs
-
 returns-3 : tie.Need-returns-3
 returns-3 c =
     let w = c .before .before in
@@ -50,11 +38,11 @@ after-id-spec =
     tie.close
     (tie.spec
     returns
-    limits-of-requires
-    head-at-requires
+    (λ c κs. search needs)
+    (λ c κs. search needs)
     enum-told
-    enum-known-fields
+    (λ c. search needs)
     with-strings-requires
     returns-2
-    same-length
+    (λ c. search needs)
     returns-3)

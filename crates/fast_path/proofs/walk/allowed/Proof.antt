@@ -3,9 +3,6 @@ use borrow.Author.Needs.{needs}
 use Rattle.fast_path.proofs.walk.allowed.Statement.{statement}
 use Rattle.fast_path.proofs.walk.allowed.Tie as tie
 
-version-allowed-requires : tie.Need-version-allowed-requires
-version-allowed-requires c κs = search needs
-
 returns : tie.Need-returns
 returns c = λ s h. (rw (← c .before .version-allowed .ensures, c .if1 .taken), h)
 
@@ -13,4 +10,4 @@ returns-2 : tie.Need-returns-2
 returns-2 c = λ s h. rw (← c .before .version-allowed .ensures, c .if1 .left)
 
 pub allowed-spec : {M : Type 1} → statement M
-allowed-spec = tie.close (tie.spec version-allowed-requires returns returns-2)
+allowed-spec = tie.close (tie.spec (λ c κs. search needs) returns returns-2)

@@ -4,14 +4,8 @@ use borrow.Author.Needs.{needs}
 use Rattle.fast_path.proofs.walk.head_at.Statement.{statement}
 use Rattle.fast_path.proofs.walk.head_at.Tie as tie
 
-version-item-requires : tie.Need-version-item-requires
-version-item-requires c κs = search needs
-
 enum-told : tie.Need-enum-told
 enum-told c = search needs
-
-enum-known-version : tie.Need-enum-known-version
-enum-known-version c = search needs
 
 numbers-requires : tie.Need-numbers-requires
 numbers-requires c κs =
@@ -32,9 +26,9 @@ pub head-at-spec : {M : Type 1} → statement M
 head-at-spec =
     tie.close
     (tie.spec
-    version-item-requires
+    (λ c κs. search needs)
     enum-told
-    enum-known-version
+    (λ c. search needs)
     numbers-requires
     returns
     returns-2)

@@ -4,45 +4,18 @@ use borrow.Author.Needs.{needs}
 use Rattle.fast_path.proofs.walk.numbers.Statement.{statement}
 use Rattle.fast_path.proofs.walk.numbers.Tie as tie
 
-slice-aggregate-number-item : tie.Need-slice-aggregate-number-item
-slice-aggregate-number-item c = search needs
-
-number-item-requires : tie.Need-number-item-requires
-number-item-requires c κs = search needs
-
 enum-told : tie.Need-enum-told
 enum-told c = search needs
-
-enum-known-m : tie.Need-enum-known-m
-enum-known-m c = search needs
-
-slice-aggregate-number-item-2 : tie.Need-slice-aggregate-number-item-2
-slice-aggregate-number-item-2 c = search needs
 
 number-item-requires-2 : tie.Need-number-item-requires-2
 number-item-requires-2 c κs =
     let k = c .before .before in
     (rw (k .m .given .1) at (k .before .before .number-item .ensures)) .1
 
-enum-told-2 : tie.Need-enum-told-2
-enum-told-2 c = search needs
-
-enum-known-t : tie.Need-enum-known-t
-enum-known-t c = search needs
-
-slice-aggregate-number-item-3 : tie.Need-slice-aggregate-number-item-3
-slice-aggregate-number-item-3 c = search needs
-
 number-item-requires-3 : tie.Need-number-item-requires-3
 number-item-requires-3 c κs =
     let k = c .before .before in
     (rw (k .t .given .1) at (k .before .before .number-item2 .ensures)) .1
-
-enum-told-3 : tie.Need-enum-told-3
-enum-told-3 c = search needs
-
-enum-known-p : tie.Need-enum-known-p
-enum-known-p c = search needs
 
 returns : tie.Need-returns
 returns c =
@@ -85,18 +58,18 @@ pub numbers-spec : {M : Type 1} → statement M
 numbers-spec =
     tie.close
     (tie.spec
-    slice-aggregate-number-item
-    number-item-requires
+    (λ c. search needs)
+    (λ c κs. search needs)
     enum-told
-    enum-known-m
-    slice-aggregate-number-item-2
+    (λ c. search needs)
+    (λ c. search needs)
     number-item-requires-2
-    enum-told-2
-    enum-known-t
-    slice-aggregate-number-item-3
+    (λ c. search needs)
+    (λ c. search needs)
+    (λ c. search needs)
     number-item-requires-3
-    enum-told-3
-    enum-known-p
+    (λ c. search needs)
+    (λ c. search needs)
     returns
     returns-2
     returns-3

@@ -7,28 +7,13 @@ use Rattle.fast_path.proofs.walk.walk_string.Tie as tie
 returns : tie.Need-returns
 returns c = walked-empty _ _ (c .if1 .taken)
 
-shared-slice-read-if2 : tie.Need-shared-slice-read-if2
-shared-slice-read-if2 c = search needs
-
 returns-2 : tie.Need-returns-2
 returns-2 c = walked-other _ _ (c .before .before .if1 .left) (c .if2 .taken)
-
-next-at-requires : tie.Need-next-at-requires
-next-at-requires c κs = search needs
-
-sub-id-number : tie.Need-sub-id-number
-sub-id-number c = search needs
-
-part-id-number-start : tie.Need-part-id-number-start
-part-id-number-start c = search needs
 
 part-id-number-end : tie.Need-part-id-number-end
 part-id-number-end c =
     let e = c .before .before .before in
     rw (c .next-at .ensures) (next-inside 36 (e .before .before .before .args .s .now) (e .if1 .left))
-
-id-number-requires : tie.Need-id-number-requires
-id-number-requires c κs = search needs
 
 after-id-requires : tie.Need-after-id-requires
 after-id-requires c κs =
@@ -36,9 +21,6 @@ after-id-requires c κs =
     let e = n .before .before .before in
     let st = e .before .before .before in
     ((rw (n .next-at .ensures) (next-inside 36 (st .args .s .now) (e .if1 .left)), st .pre .0), st .pre .1)
-
-same-length : tie.Need-same-length
-same-length c = search needs
 
 returns-3 : tie.Need-returns-3
 returns-3 c =
@@ -53,13 +35,13 @@ walk-string-spec =
     tie.close
     (tie.spec
     returns
-    shared-slice-read-if2
+    (λ c. search needs)
     returns-2
-    next-at-requires
-    sub-id-number
-    part-id-number-start
+    (λ c κs. search needs)
+    (λ c. search needs)
+    (λ c. search needs)
     part-id-number-end
-    id-number-requires
+    (λ c κs. search needs)
     after-id-requires
-    same-length
+    (λ c. search needs)
     returns-3)

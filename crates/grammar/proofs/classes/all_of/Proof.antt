@@ -17,27 +17,12 @@ Inv-loop text class i₀ i = all (inClass class) text ≡ all (inClass class) (d
 abbrev μ-loop : tie.MeasureT-loop
 μ-loop text class i₀ i = length text - i
 
-loop-holds : tie.Need-loop-holds Inv-loop μ-loop
-loop-holds c = search needs
-
-shared-slice-read-c : tie.Need-shared-slice-read-c Inv-loop μ-loop
-shared-slice-read-c c = search needs
-
-in-class-requires : tie.Need-in-class-requires Inv-loop μ-loop
-in-class-requires c κs = tt
-
 returns : tie.Need-returns Inv-loop μ-loop
 returns c =
     let a = c .before .before .before .before .before .before .args in
     sym (c .before .before .before .before .loop .inv
     ∙ all-false (inClass (a .class)) (now (a .text)) (c .before .before .before .before .loop .i) (c .before .before .before .loop-test .taken)
     (sym (c .before .in-class .ensures) ∙ not-true (c .before .in-class .result) (c .if1 .taken)))
-
-add-i : tie.Need-add-i Inv-loop μ-loop
-add-i c = search needs
-
-loop-less : tie.Need-loop-less Inv-loop μ-loop
-loop-less c = search needs
 
 loop-again : tie.Need-loop-again Inv-loop μ-loop
 loop-again c =
@@ -57,11 +42,11 @@ all-of-spec =
     (tie.spec
     Inv-loop
     μ-loop
-    loop-holds
-    shared-slice-read-c
-    in-class-requires
+    (λ c. search needs)
+    (λ c. search needs)
+    (λ c κs. tt)
     returns
-    add-i
-    loop-less
+    (λ c. search needs)
+    (λ c. search needs)
     loop-again
     returns-2)

@@ -6,15 +6,6 @@ use Rattle.grammar.proofs.classes.in_class.Tie as tie
 enum-told : tie.Need-enum-told
 enum-told c = search needs
 
-is-name-byte-requires : tie.Need-is-name-byte-requires
-is-name-byte-requires c κs = search needs
-
-enum-told-2 : tie.Need-enum-told-2
-enum-told-2 c = search needs
-
-is-value-byte-requires : tie.Need-is-value-byte-requires
-is-value-byte-requires c κs = search needs
-
 returns : tie.Need-returns
 returns c = rw (c .before .enum-told .given .1) (c .is-name-byte .ensures)
 
@@ -26,8 +17,8 @@ in-class-spec =
     tie.close
     (tie.spec
     enum-told
-    is-name-byte-requires
-    enum-told-2
-    is-value-byte-requires
+    (λ c κs. search needs)
+    (λ c. search needs)
+    (λ c κs. search needs)
     returns
     returns-2)

@@ -14,12 +14,9 @@ returns-2 : tie.Need-returns-2
 unfolding isText
 returns-2 c = simp (lt-leb _ _ (c .if2 .taken), and-false)
 
-all-of-requires : tie.Need-all-of-requires
-all-of-requires c κs = search needs
-
 returns-3 : tie.Need-returns-3
 unfolding isText
 returns-3 c = simp (le-leb _ _ (c .before .before .if1 .left), le-leb _ _ (c .before .if2 .left)) (c .all-of .ensures)
 
 pub is-text-spec : {M : Type 1} → statement M
-is-text-spec = tie.close (tie.spec returns returns-2 all-of-requires returns-3)
+is-text-spec = tie.close (tie.spec returns returns-2 (λ c κs. search needs) returns-3)

@@ -24,9 +24,6 @@ abbrev μ-loop : tie.MeasureT-loop
 loop-holds : tie.Need-loop-holds Inv-loop μ-loop
 loop-holds c = let s = now (c .before .args .params) in (omega arith, fine-start s ∙ ap (fine 0) (items-start s))
 
-next-at-requires : tie.Need-next-at-requires Inv-loop μ-loop
-next-at-requires c κs = tt
-
 bound : (c : tie.After-next-at Inv-loop μ-loop) → c .next-at .result ≤ length (now (c .before .before .before .before .args .params))
 bound c =
     omega (arith, c .next-at .ensures, find-from-le 44 (now (c .before .before .before .before .args .params)) (c .before .before .loop .at) (c .before .loop-test .taken))
@@ -45,9 +42,6 @@ part-is-item-start c = omega (arith, c .before .next-at .ensures)
 
 part-is-item-end : tie.Need-part-is-item-end Inv-loop μ-loop
 part-is-item-end c = omega (arith, bound (c .before))
-
-is-item-requires : tie.Need-is-item-requires Inv-loop μ-loop
-is-item-requires c κs = tt
 
 returns-2 : tie.Need-returns-2 Inv-loop μ-loop
 returns-2 c =
@@ -89,12 +83,12 @@ is-params-spec =
     Inv-loop
     μ-loop
     loop-holds
-    next-at-requires
+    (λ c κs. tt)
     returns
     sub-is-item
     part-is-item-start
     part-is-item-end
-    is-item-requires
+    (λ c κs. tt)
     returns-2
     add-n
     add-at

@@ -22,9 +22,6 @@ abbrev μ-loop : tie.MeasureT-loop
 loop-holds : tie.Need-loop-holds Inv-loop μ-loop
 loop-holds c = (omega arith, omega arith, omega (arith, ap (λ (is : List Item). length is) (items-start (now (c .before .args .params)))))
 
-next-at-requires : tie.Need-next-at-requires Inv-loop μ-loop
-next-at-requires c κs = tt
-
 bound : (c : tie.After-next-at Inv-loop μ-loop) → c .next-at .result ≤ length (now (c .before .before .before .before .args .params))
 bound c =
     omega (arith, c .next-at .ensures, find-from-le 44 (now (c .before .before .before .before .args .params)) (c .before .before .loop .at) (c .before .loop-test .taken))
@@ -56,7 +53,7 @@ item-count-spec =
     Inv-loop
     μ-loop
     loop-holds
-    next-at-requires
+    (λ c κs. tt)
     add-n
     add-at
     loop-less

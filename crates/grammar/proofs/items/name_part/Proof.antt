@@ -10,15 +10,6 @@ use Rattle.text.proofs.Splitting.{cut-before}
 use Rattle.grammar.proofs.items.name_part.Statement.{statement}
 use Rattle.grammar.proofs.items.name_part.Tie as tie
 
-next-at-requires : tie.Need-next-at-requires
-next-at-requires c κs = search needs
-
-sub-result : tie.Need-sub-result
-sub-result c = search needs
-
-part-result-start : tie.Need-part-result-start
-part-result-start c = search needs
-
 part-result-end : tie.Need-part-result-end
 part-result-end c = omega (arith, c .next-at .ensures, find-le 61 (now (c .before .before .args .item)))
 
@@ -30,4 +21,4 @@ returns c =
 
 pub name-part-spec : {M : Type 1} → statement M
 name-part-spec =
-    tie.close (tie.spec next-at-requires sub-result part-result-start part-result-end returns)
+    tie.close (tie.spec (λ c κs. search needs) (λ c. search needs) (λ c. search needs) part-result-end returns)

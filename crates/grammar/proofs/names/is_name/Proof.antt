@@ -3,11 +3,8 @@ use borrow.Author.Needs.{needs}
 use Rattle.grammar.proofs.names.is_name.Statement.{statement}
 use Rattle.grammar.proofs.names.is_name.Tie as tie
 
-is-text-requires : tie.Need-is-text-requires
-is-text-requires c κs = search needs
-
 returns : tie.Need-returns
 returns c = c .is-text .ensures
 
 pub is-name-spec : {M : Type 1} → statement M
-is-name-spec = tie.close (tie.spec is-text-requires returns)
+is-name-spec = tie.close (tie.spec (λ c κs. search needs) returns)

@@ -7,20 +7,11 @@ use Rattle.grammar.proofs.Reading.{item-is}
 use Rattle.grammar.proofs.parts.item_value.Statement.{statement}
 use Rattle.grammar.proofs.parts.item_value.Tie as tie
 
-piece-requires : tie.Need-piece-requires
-piece-requires c κs = search needs
-
-nth-item-requires : tie.Need-nth-item-requires
-nth-item-requires c κs = search needs
-
-value-part-requires : tie.Need-value-part-requires
-value-part-requires c κs = search needs
-
 returns : tie.Need-returns
 returns c =
     let a = c .before .before .before .before .args in
     c .value-part .ensures
-    ∙ ap (λ (i : Item). i .1) (item-is (now (a .s)) (a .index) (now (c .before .before .piece .result)) (now (c .before .nth-item .result)) (c .before .before .piece .ensures) (c .before .nth-item .ensures))
+    ∙ ap (λ (i : Item). i .1) (item-is (now (a .s)) (a .index) (now (c .before .before .piece .result)) (now (c .before .nth-part .result)) (c .before .before .piece .ensures) (c .before .nth-part .ensures))
 
 pub item-value-spec : {M : Type 1} → statement M
-item-value-spec = tie.close (tie.spec piece-requires nth-item-requires value-part-requires returns)
+item-value-spec = tie.close (tie.spec (λ c κs. search needs) (λ c κs. search needs) (λ c κs. search needs) returns)

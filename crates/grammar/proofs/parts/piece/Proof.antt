@@ -9,15 +9,6 @@ use Rattle.grammar.proofs.Reading.{layout-part}
 use Rattle.grammar.proofs.parts.piece.Statement.{statement}
 use Rattle.grammar.proofs.parts.piece.Tie as tie
 
-read-requires : tie.Need-read-requires
-read-requires c κs = search needs
-
-span-of-requires : tie.Need-span-of-requires
-span-of-requires c κs = search needs
-
-part-requires : tie.Need-part-requires
-part-requires c κs = search needs
-
 returns : tie.Need-returns
 returns c =
     let a = c .before .before .before .before .before .args in
@@ -26,4 +17,4 @@ returns c =
     ∙ layout-part (now (a .s)) (a .which)
 
 pub piece-spec : {M : Type 1} → statement M
-piece-spec = tie.close (tie.spec read-requires span-of-requires part-requires returns)
+piece-spec = tie.close (tie.spec (λ c κs. search needs) (λ c κs. search needs) (λ c κs. search needs) returns)

@@ -22,12 +22,6 @@ begun c = whole-starts (now (c .before .before .before .args .s)) (sound c)
 placed : (c : tie.After-sort) → c .sort .result .places ≡ placesOf (pieces (now (c .before .before .before .before .args .s)))
 placed c = ap (λ (x : Sorted). x .places) (c .sort .ensures)
 
-bad-whole-requires : tie.Need-bad-whole-requires
-bad-whole-requires c κs = search needs
-
-refused-requires : tie.Need-refused-requires
-refused-requires c κs = search needs
-
 returns : tie.Need-returns
 returns c =
     let w = c .before .before in
@@ -39,9 +33,6 @@ sort-requires c κs = begun c
 
 number-of-requires : tie.Need-number-of-requires
 number-of-requires c κs = (begun (c .before), c .sort .ensures)
-
-refused-requires-2 : tie.Need-refused-requires-2
-refused-requires-2 c κs = search needs
 
 returns-2 : tie.Need-returns-2
 returns-2 c =
@@ -68,12 +59,12 @@ pub read-spec : {M : Type 1} → statement M
 read-spec =
     tie.close
     (tie.spec
-    bad-whole-requires
-    refused-requires
+    (λ c κs. search needs)
+    (λ c κs. search needs)
     returns
     sort-requires
     number-of-requires
-    refused-requires-2
+    (λ c κs. search needs)
     returns-2
     items-of-requires
     returns-3)

@@ -11,19 +11,10 @@ use Rattle.grammar.proofs.Spans.{part-inside, part-outside}
 use Rattle.grammar.proofs.places.part.Statement.{statement}
 use Rattle.grammar.proofs.places.part.Tie as tie
 
-has-room-requires : tie.Need-has-room-requires
-has-room-requires c κs = search needs
-
 add-end : tie.Need-add-end
 add-end c =
     let a = c .before .before .before .args in
     omega (arith, leb-true (a .span .at + a .span .len .0) (length (now (a .s))) (sym (c .before .has-room .ensures) ∙ c .if1 .taken))
-
-sub-result : tie.Need-sub-result
-sub-result c = search needs
-
-part-result-start : tie.Need-part-result-start
-part-result-start c = search needs
 
 part-result-end : tie.Need-part-result-end
 part-result-end c =
@@ -36,15 +27,6 @@ returns c =
     ap (λ (n : ℕ). take n (drop (a .span .at) (now (a .s)))) (add-sub-cancel-left (a .span .at) (a .span .len .0))
     ∙ sym (part-inside (now (a .s)) (a .span) (sym (c .before .before .has-room .ensures) ∙ c .before .if1 .taken))
 
-sub-result-2 : tie.Need-sub-result-2
-sub-result-2 c = search needs
-
-part-result-start-2 : tie.Need-part-result-start-2
-part-result-start-2 c = search needs
-
-part-result-end-2 : tie.Need-part-result-end-2
-part-result-end-2 c = search needs
-
 returns-2 : tie.Need-returns-2
 returns-2 c =
     let a = c .before .before .before .before .args in
@@ -54,13 +36,13 @@ pub part-spec : {M : Type 1} → statement M
 part-spec =
     tie.close
     (tie.spec
-    has-room-requires
+    (λ c κs. search needs)
     add-end
-    sub-result
-    part-result-start
+    (λ c. search needs)
+    (λ c. search needs)
     part-result-end
     returns
-    sub-result-2
-    part-result-start-2
-    part-result-end-2
+    (λ c. search needs)
+    (λ c. search needs)
+    (λ c. search needs)
     returns-2)

@@ -13,11 +13,8 @@ returns c = sym (whole-none (now (c .before .args .s)) (c .if1 .taken))
 returns-2 : tie.Need-returns-2
 returns-2 c = sym (whole-long (now (c .before .before .args .s)) (c .if2 .taken))
 
-shared-slice-read-result : tie.Need-shared-slice-read-result
-shared-slice-read-result c = search needs
-
 returns-3 : tie.Need-returns-3
 returns-3 c = sym (whole-first (now (c .before .before .before .args .s)) (omega arith) (omega arith))
 
 pub bad-whole-spec : {M : Type 1} → statement M
-bad-whole-spec = tie.close (tie.spec returns returns-2 shared-slice-read-result returns-3)
+bad-whole-spec = tie.close (tie.spec returns returns-2 (λ c. search needs) returns-3)

@@ -8,20 +8,11 @@ use Rattle.grammar.proofs.RuleLaws.{keeps-absent, keeps-present}
 use Rattle.grammar.proofs.rules.breaks.Statement.{statement}
 use Rattle.grammar.proofs.rules.breaks.Tie as tie
 
-span-of-requires : tie.Need-span-of-requires
-span-of-requires c κs = search needs
-
 returns : tie.Need-returns
 returns c =
     let p = c .before .before in
     let a = p .before .before in
     sym (keeps-absent (now (a .args .s)) (a .pre .0) (a .args .which) (a .args .places) (a .pre .1) (p .span-of .result) (p .span-of .ensures) (c .if1 .taken))
-
-part-requires : tie.Need-part-requires
-part-requires c κs = search needs
-
-keeps-rule-requires : tie.Need-keeps-rule-requires
-keeps-rule-requires c κs = search needs
 
 returns-2 : tie.Need-returns-2
 returns-2 c =
@@ -33,4 +24,4 @@ returns-2 c =
 
 pub breaks-spec : {M : Type 1} → statement M
 breaks-spec =
-    tie.close (tie.spec span-of-requires returns part-requires keeps-rule-requires returns-2)
+    tie.close (tie.spec (λ c κs. search needs) returns (λ c κs. search needs) (λ c κs. search needs) returns-2)

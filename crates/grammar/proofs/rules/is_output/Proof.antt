@@ -14,12 +14,9 @@ returns-2 : tie.Need-returns-2
 unfolding isOutput
 returns-2 c = simp (lt-leb _ _ (c .if2 .taken), and-false)
 
-is-canonical-requires : tie.Need-is-canonical-requires
-is-canonical-requires c κs = search needs
-
 returns-3 : tie.Need-returns-3
 unfolding isOutput
 returns-3 c = simp (le-leb _ _ (c .before .before .if1 .left), le-leb _ _ (c .before .if2 .left)) (c .is-canonical .ensures)
 
 pub is-output-spec : {M : Type 1} → statement M
-is-output-spec = tie.close (tie.spec returns returns-2 is-canonical-requires returns-3)
+is-output-spec = tie.close (tie.spec returns returns-2 (λ c κs. search needs) returns-3)

@@ -15,26 +15,8 @@ use Rattle.grammar.proofs.rules.is_version.Tie as tie
 returns : tie.Need-returns
 returns c = sym (version-none (now (c .before .before .args .text)) (c .if1 .taken))
 
-sub-read-within : tie.Need-sub-read-within
-sub-read-within c = search needs
-
-part-read-within-start : tie.Need-part-read-within-start
-part-read-within-start c = search needs
-
-part-read-within-end : tie.Need-part-read-within-end
-part-read-within-end c = search needs
-
-read-within-requires : tie.Need-read-within-requires
-read-within-requires c κs = search needs
-
 enum-told : tie.Need-enum-told
 enum-told c = search needs
-
-enum-told-2 : tie.Need-enum-told-2
-enum-told-2 c = search needs
-
-enum-told-3 : tie.Need-enum-told-3
-enum-told-3 c = search needs
 
 -- the rule by the outcome of the reader
 said : (k : tie.After-read-within) → isVersion (now (k .before .before .before .before .args .text)) ≡ eqb (limitedNumber (k .read-within .result)) 0
@@ -56,13 +38,13 @@ is-version-spec =
     tie.close
     (tie.spec
     returns
-    sub-read-within
-    part-read-within-start
-    part-read-within-end
-    read-within-requires
+    (λ c. search needs)
+    (λ c. search needs)
+    (λ c. search needs)
+    (λ c κs. search needs)
     enum-told
-    enum-told-2
-    enum-told-3
+    (λ c. search needs)
+    (λ c. search needs)
     returns-2
     returns-3
     returns-4)

@@ -15,12 +15,6 @@ returns c =
     let a = c .before .before .before .before in
     sym (items-absent (now (a .args .s)) (a .pre .0) (a .args .places) (a .pre .1) (c .if1 .taken))
 
-part-requires : tie.Need-part-requires
-part-requires c κs = search needs
-
-item-count-requires : tie.Need-item-count-requires
-item-count-requires c κs = search needs
-
 returns-2 : tie.Need-returns-2
 returns-2 c =
     let f = c .before .before in
@@ -29,4 +23,4 @@ returns-2 c =
     ∙ sym (items-present (now (a .args .s)) (a .pre .0) (a .args .places) (a .pre .1) (f .if1 .left))
 
 pub items-of-spec : {M : Type 1} → statement M
-items-of-spec = tie.close (tie.spec returns part-requires item-count-requires returns-2)
+items-of-spec = tie.close (tie.spec returns (λ c κs. search needs) (λ c κs. search needs) returns-2)

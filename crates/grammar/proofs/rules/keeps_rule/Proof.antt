@@ -6,33 +6,6 @@ use Rattle.grammar.proofs.rules.keeps_rule.Tie as tie
 enum-told : tie.Need-enum-told
 enum-told c = search needs
 
-is-name-requires : tie.Need-is-name-requires
-is-name-requires c κs = search needs
-
-enum-told-2 : tie.Need-enum-told-2
-enum-told-2 c = search needs
-
-is-version-requires : tie.Need-is-version-requires
-is-version-requires c κs = search needs
-
-enum-told-3 : tie.Need-enum-told-3
-enum-told-3 c = search needs
-
-is-params-requires : tie.Need-is-params-requires
-is-params-requires c κs = search needs
-
-enum-told-4 : tie.Need-enum-told-4
-enum-told-4 c = search needs
-
-is-text-requires : tie.Need-is-text-requires
-is-text-requires c κs = search needs
-
-enum-told-5 : tie.Need-enum-told-5
-enum-told-5 c = search needs
-
-is-output-requires : tie.Need-is-output-requires
-is-output-requires c κs = search needs
-
 returns : tie.Need-returns
 returns c = rw (c .before .enum-told .given .1) (c .is-name .ensures)
 
@@ -53,15 +26,15 @@ keeps-rule-spec =
     tie.close
     (tie.spec
     enum-told
-    is-name-requires
-    enum-told-2
-    is-version-requires
-    enum-told-3
-    is-params-requires
-    enum-told-4
-    is-text-requires
-    enum-told-5
-    is-output-requires
+    (λ c κs. search needs)
+    (λ c. search needs)
+    (λ c κs. search needs)
+    (λ c. search needs)
+    (λ c κs. search needs)
+    (λ c. search needs)
+    (λ c κs. search needs)
+    (λ c. search needs)
+    (λ c κs. search needs)
     returns
     returns-2
     returns-3

@@ -11,18 +11,12 @@ use Rattle.grammar.proofs.sorting.begins_version.Tie as tie
 returns : tie.Need-returns
 returns c = sym (version-short (now (c .before .args .text)) (c .if1 .taken))
 
-shared-slice-read-if2 : tie.Need-shared-slice-read-if2
-shared-slice-read-if2 c = search needs
-
 returns-2 : tie.Need-returns-2
 returns-2 c = rw (version-long (now (c .before .before .before .args .text)) (omega arith), ne-eqb _ 118 (c .if2 .taken))
-
-shared-slice-read-result : tie.Need-shared-slice-read-result
-shared-slice-read-result c = search needs
 
 returns-3 : tie.Need-returns-3
 returns-3 c = rw (version-long (now (c .before .before .before .before .args .text)) (omega arith), eq-eqb _ 118 (c .before .if2 .left))
 
 pub begins-version-spec : {M : Type 1} → statement M
 begins-version-spec =
-    tie.close (tie.spec returns shared-slice-read-if2 returns-2 shared-slice-read-result returns-3)
+    tie.close (tie.spec returns (λ c. search needs) returns-2 (λ c. search needs) returns-3)

@@ -5,21 +5,6 @@ use borrow.Author.Needs.{needs}
 use Rattle.grammar.proofs.sorting.sort.Statement.{statement}
 use Rattle.grammar.proofs.sorting.sort.Tie as tie
 
-take-piece-requires : tie.Need-take-piece-requires
-take-piece-requires c κs = search needs
-
-take-piece-requires-2 : tie.Need-take-piece-requires-2
-take-piece-requires-2 c κs = search needs
-
-take-piece-requires-3 : tie.Need-take-piece-requires-3
-take-piece-requires-3 c κs = search needs
-
-take-piece-requires-4 : tie.Need-take-piece-requires-4
-take-piece-requires-4 c κs = search needs
-
-take-piece-requires-5 : tie.Need-take-piece-requires-5
-take-piece-requires-5 c κs = search needs
-
 returns : tie.Need-returns
 returns c =
     let c1 = c .before .before .before .before .before .before in
@@ -30,9 +15,9 @@ pub sort-spec : {M : Type 1} → statement M
 sort-spec =
     tie.close
     (tie.spec
-    take-piece-requires
-    take-piece-requires-2
-    take-piece-requires-3
-    take-piece-requires-4
-    take-piece-requires-5
+    (λ c κs. search needs)
+    (λ c κs. search needs)
+    (λ c κs. search needs)
+    (λ c κs. search needs)
+    (λ c κs. search needs)
     returns)

@@ -13,25 +13,10 @@ returns c =
     let a = c .before .before .args in
     stepped-past (now (a .s)) (a .which) (a .at) (c .if1 .taken)
 
-next-at-requires : tie.Need-next-at-requires
-next-at-requires c κs = search needs
-
-sub-is-next : tie.Need-sub-is-next
-sub-is-next c = search needs
-
-part-is-next-start : tie.Need-part-is-next-start
-part-is-next-start c = search needs
-
 part-is-next-end : tie.Need-part-is-next-end
 part-is-next-end c =
     let a = c .before .before .before .args in
     omega (arith, c .next-at .ensures, find-from-le 36 (now (a .s)) (a .at) (omega arith))
-
-is-next-requires : tie.Need-is-next-requires
-is-next-requires c κs = search needs
-
-sub-t14 : tie.Need-sub-t14
-sub-t14 c = search needs
 
 add-t17 : tie.Need-add-t17
 add-t17 c =
@@ -57,12 +42,12 @@ take-piece-spec =
     tie.close
     (tie.spec
     returns
-    next-at-requires
-    sub-is-next
-    part-is-next-start
+    (λ c κs. search needs)
+    (λ c. search needs)
+    (λ c. search needs)
     part-is-next-end
-    is-next-requires
-    sub-t14
+    (λ c κs. search needs)
+    (λ c. search needs)
     add-t17
     returns-2
     returns-3)

@@ -9,15 +9,6 @@ use Rattle.phc.proofs.SizeLaws.{decoded-small}
 use Rattle.phc.proofs.reading.decode_one.Statement.{statement}
 use Rattle.phc.proofs.reading.decode_one.Tie as tie
 
-byte-string-requires : tie.Need-byte-string-requires
-byte-string-requires c κs = search needs
-
-cast-result : tie.Need-cast-result
-cast-result c = search needs
-
-same-length : tie.Need-same-length
-same-length c = search needs
-
 returns : tie.Need-returns
 returns c =
     let b = c .before .before .before in
@@ -34,9 +25,6 @@ mul-result c =
     let k = b .byte-string .result .count .0 in
     omega (arith, decoded-small (a .choice) (now (a .s)) (now (a .buf)) (b .byte-string .result .number) k _ (b .byte-string .ensures) (c .before .if1 .left))
 
-same-length-2 : tie.Need-same-length-2
-same-length-2 c = search needs
-
 returns-2 : tie.Need-returns-2
 returns-2 c =
     let b = c .before .before .before .before in
@@ -50,10 +38,10 @@ pub decode-one-spec : {M : Type 1} → statement M
 decode-one-spec =
     tie.close
     (tie.spec
-    byte-string-requires
-    cast-result
-    same-length
+    (λ c κs. search needs)
+    (λ c. search needs)
+    (λ c. search needs)
     returns
     mul-result
-    same-length-2
+    (λ c. search needs)
     returns-2)

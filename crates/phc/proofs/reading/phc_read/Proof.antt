@@ -5,12 +5,6 @@ use borrow.Author.Needs.{needs}
 use Rattle.phc.proofs.reading.phc_read.Statement.{statement}
 use Rattle.phc.proofs.reading.phc_read.Tie as tie
 
-read-requires : tie.Need-read-requires
-read-requires c κs = search needs
-
-cast-result : tie.Need-cast-result
-cast-result c = search needs
-
 returns : tie.Need-returns
 returns c =
     let r = c .before in
@@ -22,12 +16,6 @@ returns-2 c =
     let r = c .before .before in
     let a = r .before .before .before .args in
     record-full (now (a .s)) (now (a .«record»)) (r .read .result) (r .read .ensures) (c .before .if1 .left) (c .if2 .taken)
-
-put-record-requires : tie.Need-put-record-requires
-put-record-requires c κs = search needs
-
-same-length : tie.Need-same-length
-same-length c = search needs
 
 returns-3 : tie.Need-returns-3
 returns-3 c =
@@ -41,10 +29,10 @@ pub phc-read-spec : {M : Type 1} → statement M
 phc-read-spec =
     tie.close
     (tie.spec
-    read-requires
-    cast-result
+    (λ c κs. search needs)
+    (λ c. search needs)
     returns
     returns-2
-    put-record-requires
-    same-length
+    (λ c κs. search needs)
+    (λ c. search needs)
     returns-3)

@@ -4,17 +4,11 @@ use borrow.Author.Needs.{needs}
 use Rattle.phc.proofs.whole.number_or_full.Statement.{statement}
 use Rattle.phc.proofs.whole.number_or_full.Tie as tie
 
-read-requires : tie.Need-read-requires
-read-requires c κs = search needs
-
 returns : tie.Need-returns
 returns c = rw (← c .before .read .ensures, c .if1 .taken)
-
-cast-result : tie.Need-cast-result
-cast-result c = search needs
 
 returns-2 : tie.Need-returns-2
 returns-2 c = rw (← c .before .read .ensures, ne-eqb _ 0 (c .if1 .left))
 
 pub number-or-full-spec : {M : Type 1} → statement M
-number-or-full-spec = tie.close (tie.spec read-requires returns cast-result returns-2)
+number-or-full-spec = tie.close (tie.spec (λ c κs. search needs) returns (λ c. search needs) returns-2)

@@ -30,18 +30,6 @@ said c =
     ∙ ap (λ (v : Version). writing editionTwo (fieldSet (record { id = a .id; version = v; m = a .m; t = a .t; p = a .p }) (now (a .keyid)) (now (a .«data»)) (now (a .salt)) (now (a .output))) (now (a .buf)) 0)
     (c .before .before .version-field .ensures)
 
-version-field-requires : tie.Need-version-field-requires
-version-field-requires c κs = search needs
-
-write-requires : tie.Need-write-requires
-write-requires c κs = search needs
-
-cast-result : tie.Need-cast-result
-cast-result c = search needs
-
-same-length : tie.Need-same-length
-same-length c = search needs
-
 returns : tie.Need-returns
 returns c =
     let w = c .before .before .before in
@@ -55,9 +43,6 @@ mul-result c =
     let w = c .before .before .before .before in
     omega (arith, written-small (fields (start w)) (now (start w .args .buf)) (w .write .result .number) (w .write .result .count .0) _ (said w) (c .before .if1 .left))
 
-same-length-2 : tie.Need-same-length-2
-same-length-2 c = search needs
-
 returns-2 : tie.Need-returns-2
 returns-2 c =
     let w = c .before .before .before .before in
@@ -70,11 +55,11 @@ pub phc-write-spec : {M : Type 1} → statement M
 phc-write-spec =
     tie.close
     (tie.spec
-    version-field-requires
-    write-requires
-    cast-result
-    same-length
+    (λ c κs. search needs)
+    (λ c κs. search needs)
+    (λ c. search needs)
+    (λ c. search needs)
     returns
     mul-result
-    same-length-2
+    (λ c. search needs)
     returns-2)

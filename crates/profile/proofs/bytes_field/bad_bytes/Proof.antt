@@ -12,20 +12,11 @@ returns c =
     let a = c .before .before .before .args in
     rw (slot-none (now (a .t)) (a .span) (c .if1 .taken))
 
-part-requires : tie.Need-part-requires
-part-requires c κs = search needs
-
-is-canonical-requires : tie.Need-is-canonical-requires
-is-canonical-requires c κs = search needs
-
 returns-2 : tie.Need-returns-2
 returns-2 c =
     let p = c .before .before in
     let a = p .before .before .before .before .args in
     rw (slot-some (now (a .t)) (a .span) (p .before .if1 .left), ← p .part .ensures, ← c .before .is-canonical .ensures, not-true (c .before .is-canonical .result) (c .if2 .taken))
-
-bad-size-requires : tie.Need-bad-size-requires
-bad-size-requires c κs = search needs
 
 returns-3 : tie.Need-returns-3
 returns-3 c =
@@ -37,4 +28,4 @@ returns-3 c =
 pub bad-bytes-spec : {M : Type 1} → statement M
 bad-bytes-spec =
     tie.close
-    (tie.spec returns part-requires is-canonical-requires returns-2 bad-size-requires returns-3)
+    (tie.spec returns (λ c κs. search needs) (λ c κs. search needs) returns-2 (λ c κs. search needs) returns-3)

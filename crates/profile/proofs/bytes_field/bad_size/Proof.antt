@@ -12,15 +12,6 @@ returns c =
     let a = c .before .before .before .args in
     rw (slot-none (now (a .t)) (a .span) (c .if1 .taken))
 
-part-requires : tie.Need-part-requires
-part-requires c κs = search needs
-
-decoded-len-requires : tie.Need-decoded-len-requires
-decoded-len-requires c κs = search needs
-
-is-size-requires : tie.Need-is-size-requires
-is-size-requires c κs = search needs
-
 returns-2 : tie.Need-returns-2
 returns-2 c =
     let p = c .before .before in
@@ -29,4 +20,4 @@ returns-2 c =
 
 pub bad-size-spec : {M : Type 1} → statement M
 bad-size-spec =
-    tie.close (tie.spec returns part-requires decoded-len-requires is-size-requires returns-2)
+    tie.close (tie.spec returns (λ c κs. search needs) (λ c κs. search needs) (λ c κs. search needs) returns-2)

@@ -7,9 +7,6 @@ use Rattle.profile.proofs.bytes_field.misplaced_bytes.Tie as tie
 enum-told : tie.Need-enum-told
 enum-told c = search needs
 
-enum-told-2 : tie.Need-enum-told-2
-enum-told-2 c = search needs
-
 returns : tie.Need-returns
 returns c = λ t. rw (c .enum-told .given .1)
 
@@ -17,4 +14,4 @@ returns-2 : tie.Need-returns-2
 returns-2 c = λ t. rw (c .before .enum-told2 .given .1) (there-barred t (c .before .before .before .args .span))
 
 pub misplaced-bytes-spec : {M : Type 1} → statement M
-misplaced-bytes-spec = tie.close (tie.spec enum-told enum-told-2 returns returns-2)
+misplaced-bytes-spec = tie.close (tie.spec enum-told (λ c. search needs) returns returns-2)

@@ -12,12 +12,6 @@ use Rattle.profile.proofs.ids.id_number.Tie as tie
 abbrev from : ℕ → tie.Start → ℕ
 from k a = idOf (drop k editionTwo) (now (a .args .name))
 
-slice-aggregate-same-text : tie.Need-slice-aggregate-same-text
-slice-aggregate-same-text c = search needs
-
-same-text-requires : tie.Need-same-text-requires
-same-text-requires c κs = search needs
-
 returns : tie.Need-returns
 unfolding editionTwo
 returns c = rw (← c .before .same-text .ensures, c .if1 .taken)
@@ -27,12 +21,6 @@ past-1 : (c : tie.Else1) → from 0 (c .before .before .before .before) ≡ next
 unfolding editionTwo
 past-1 c = rw (← c .before .same-text .ensures, c .if1 .left)
 
-slice-aggregate-same-text-2 : tie.Need-slice-aggregate-same-text-2
-slice-aggregate-same-text-2 c = search needs
-
-same-text-requires-2 : tie.Need-same-text-requires-2
-same-text-requires-2 c κs = search needs
-
 returns-2 : tie.Need-returns-2
 unfolding editionTwo
 returns-2 c = sym (past-1 (c .before .before .before) ∙ rw (← c .before .same-text2 .ensures, c .if2 .taken))
@@ -40,12 +28,6 @@ returns-2 c = sym (past-1 (c .before .before .before) ∙ rw (← c .before .sam
 past-2 : (c : tie.Else2) → from 0 (c .before .before .before .before .before .before .before) ≡ next (next (from 2 (c .before .before .before .before .before .before .before)))
 unfolding editionTwo
 past-2 c = past-1 (c .before .before .before) ∙ rw (← c .before .same-text2 .ensures, c .if2 .left)
-
-slice-aggregate-same-text-3 : tie.Need-slice-aggregate-same-text-3
-slice-aggregate-same-text-3 c = search needs
-
-same-text-requires-3 : tie.Need-same-text-requires-3
-same-text-requires-3 c κs = search needs
 
 returns-3 : tie.Need-returns-3
 unfolding editionTwo
@@ -55,12 +37,6 @@ past-3 : (c : tie.Else3) → from 0 (c .before .before .before .before .before .
 unfolding editionTwo
 past-3 c = past-2 (c .before .before .before) ∙ rw (← c .before .same-text3 .ensures, c .if3 .left)
 
-slice-aggregate-same-text-4 : tie.Need-slice-aggregate-same-text-4
-slice-aggregate-same-text-4 c = search needs
-
-same-text-requires-4 : tie.Need-same-text-requires-4
-same-text-requires-4 c κs = search needs
-
 returns-4 : tie.Need-returns-4
 unfolding editionTwo
 returns-4 c = sym (past-3 (c .before .before .before) ∙ rw (← c .before .same-text4 .ensures, c .if4 .taken))
@@ -68,12 +44,6 @@ returns-4 c = sym (past-3 (c .before .before .before) ∙ rw (← c .before .sam
 past-4 : (c : tie.Else4) → from 0 (c .before .before .before .before .before .before .before .before .before .before .before .before .before) ≡ next (next (next (next (from 4 (c .before .before .before .before .before .before .before .before .before .before .before .before .before)))))
 unfolding editionTwo
 past-4 c = past-3 (c .before .before .before) ∙ rw (← c .before .same-text4 .ensures, c .if4 .left)
-
-slice-aggregate-same-text-5 : tie.Need-slice-aggregate-same-text-5
-slice-aggregate-same-text-5 c = search needs
-
-same-text-requires-5 : tie.Need-same-text-requires-5
-same-text-requires-5 c κs = search needs
 
 returns-5 : tie.Need-returns-5
 unfolding editionTwo
@@ -87,19 +57,19 @@ pub id-number-spec : {M : Type 1} → statement M
 id-number-spec =
     tie.close
     (tie.spec
-    slice-aggregate-same-text
-    same-text-requires
+    (λ c. search needs)
+    (λ c κs. search needs)
     returns
-    slice-aggregate-same-text-2
-    same-text-requires-2
+    (λ c. search needs)
+    (λ c κs. search needs)
     returns-2
-    slice-aggregate-same-text-3
-    same-text-requires-3
+    (λ c. search needs)
+    (λ c κs. search needs)
     returns-3
-    slice-aggregate-same-text-4
-    same-text-requires-4
+    (λ c. search needs)
+    (λ c κs. search needs)
     returns-4
-    slice-aggregate-same-text-5
-    same-text-requires-5
+    (λ c. search needs)
+    (λ c κs. search needs)
     returns-5
     returns-6)

@@ -77,32 +77,17 @@ past-3 c = past-2 (c .before .before .before) ∙ rw (← told-m (c .before), c 
 past-4 : (c : tie.Else4) → spelling (c .before .before .before .before .before .before .before .before .before .before .before .before .before) ≡ rest-4 (c .before .before .before .before .before .before .before .before .before .before .before .before .before)
 past-4 c = past-3 (c .before .before .before) ∙ rw (← told-t (c .before), c .if4 .left)
 
-bad-bytes-requires : tie.Need-bad-bytes-requires
-bad-bytes-requires c κs = search needs
-
 returns : tie.Need-returns
 returns c = sym (rw (← c .before .bad-bytes .ensures, c .if1 .taken))
-
-bad-bytes-requires-2 : tie.Need-bad-bytes-requires-2
-bad-bytes-requires-2 c κs = search needs
 
 returns-2 : tie.Need-returns-2
 returns-2 c = sym (past-1 (c .before .before .before) ∙ rw (← c .before .bad-bytes2 .ensures, c .if2 .taken))
 
-written-out-requires : tie.Need-written-out-requires
-written-out-requires c κs = search needs
-
 returns-3 : tie.Need-returns-3
 returns-3 c = sym (past-2 (c .before .before .before) ∙ rw (← told-m (c .before), c .if3 .taken))
 
-written-out-requires-2 : tie.Need-written-out-requires-2
-written-out-requires-2 c κs = search needs
-
 returns-4 : tie.Need-returns-4
 returns-4 c = sym (past-3 (c .before .before .before) ∙ rw (← told-t (c .before), c .if4 .taken))
-
-written-out-requires-3 : tie.Need-written-out-requires-3
-written-out-requires-3 c κs = search needs
 
 returns-5 : tie.Need-returns-5
 returns-5 c = sym (past-4 (c .before .before .before) ∙ rw (← told-p (c .before), c .if5 .taken))
@@ -114,14 +99,14 @@ pub bytes-and-spelling-spec : {M : Type 1} → statement M
 bytes-and-spelling-spec =
     tie.close
     (tie.spec
-    bad-bytes-requires
+    (λ c κs. search needs)
     returns
-    bad-bytes-requires-2
+    (λ c κs. search needs)
     returns-2
-    written-out-requires
+    (λ c κs. search needs)
     returns-3
-    written-out-requires-2
+    (λ c κs. search needs)
     returns-4
-    written-out-requires-3
+    (λ c κs. search needs)
     returns-5
     returns-6)

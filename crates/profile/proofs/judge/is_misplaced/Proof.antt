@@ -52,32 +52,17 @@ past-3 c u = past-2 (c .before .before .before) u ∙ rw (← c .before .misplac
 past-4 : (c : tie.Else4) (u : List ℕ) → tests (c .before .before .before .before .before .before .before .before .before .before .before .before) u ≡ rest-4 (c .before .before .before .before .before .before .before .before .before .before .before .before) u
 past-4 c u = past-3 (c .before .before .before) u ∙ rw (← c .before .misplaced-bytes .ensures u, c .if4 .left)
 
-misplaced-number-requires : tie.Need-misplaced-number-requires
-misplaced-number-requires c κs = search needs
-
 returns : tie.Need-returns
 returns c = λ u. sym (rw (← c .before .misplaced-number .ensures u, c .if1 .taken))
-
-misplaced-number-requires-2 : tie.Need-misplaced-number-requires-2
-misplaced-number-requires-2 c κs = search needs
 
 returns-2 : tie.Need-returns-2
 returns-2 c = λ u. sym (past-1 (c .before .before .before) u ∙ rw (← c .before .misplaced-number2 .ensures u, c .if2 .taken))
 
-misplaced-number-requires-3 : tie.Need-misplaced-number-requires-3
-misplaced-number-requires-3 c κs = search needs
-
 returns-3 : tie.Need-returns-3
 returns-3 c = λ u. sym (past-2 (c .before .before .before) u ∙ rw (← c .before .misplaced-number3 .ensures u, c .if3 .taken))
 
-misplaced-bytes-requires : tie.Need-misplaced-bytes-requires
-misplaced-bytes-requires c κs = search needs
-
 returns-4 : tie.Need-returns-4
 returns-4 c = λ u. sym (past-3 (c .before .before .before) u ∙ rw (← c .before .misplaced-bytes .ensures u, c .if4 .taken))
-
-misplaced-bytes-requires-2 : tie.Need-misplaced-bytes-requires-2
-misplaced-bytes-requires-2 c κs = search needs
 
 returns-5 : tie.Need-returns-5
 returns-5 c = λ u. sym (past-4 (c .before .before) u ∙ sym (c .misplaced-bytes2 .ensures u))
@@ -86,13 +71,13 @@ pub is-misplaced-spec : {M : Type 1} → statement M
 is-misplaced-spec =
     tie.close
     (tie.spec
-    misplaced-number-requires
+    (λ c κs. search needs)
     returns
-    misplaced-number-requires-2
+    (λ c κs. search needs)
     returns-2
-    misplaced-number-requires-3
+    (λ c κs. search needs)
     returns-3
-    misplaced-bytes-requires
+    (λ c κs. search needs)
     returns-4
-    misplaced-bytes-requires-2
+    (λ c κs. search needs)
     returns-5)

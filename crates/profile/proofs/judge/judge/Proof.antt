@@ -124,41 +124,20 @@ kept c =
     let r = c .before .before in
     numbers-are r .numbers-are (sym (numbers-are r .number-is) ∙ c .if5 .left)
 
-refused-requires : tie.Need-refused-requires
-refused-requires c κs = search needs
-
 returns : tie.Need-returns
 returns c =
     let a = c .before .before .before .before in
     refuse a (c .refused .result) 8 (c .refused .ensures) (rw (eq-eqb (a .args .id) 0 (c .before .if1 .taken))) (λ z. absurd (omega arith))
-
-version-allowed-requires : tie.Need-version-allowed-requires
-version-allowed-requires c κs = search needs
-
-refused-requires-2 : tie.Need-refused-requires-2
-refused-requires-2 c κs = search needs
 
 returns-2 : tie.Need-returns-2
 returns-2 c =
     let a = at-1 (c .before .before .before) in
     refuse a (c .refused2 .result) 9 (c .refused2 .ensures) (past-8 (c .before .before .before) ∙ rw (← c .before .before .version-allowed .ensures, c .before .if2 .taken)) (λ z. absurd (omega arith))
 
-limits-of-requires : tie.Need-limits-of-requires
-limits-of-requires c κs = search needs
-
-refused-requires-3 : tie.Need-refused-requires-3
-refused-requires-3 c κs = search needs
-
 returns-3 : tie.Need-returns-3
 returns-3 c =
     let a = c .before .before .before .before .before .before .before .before in
     refuse a (c .refused3 .result) 10 (c .refused3 .ensures) (past-9 (c .before .before .before) ∙ rw (c .before .if3 .taken)) (λ z. absurd (omega arith))
-
-is-misplaced-requires : tie.Need-is-misplaced-requires
-is-misplaced-requires c κs = search needs
-
-refused-requires-4 : tie.Need-refused-requires-4
-refused-requires-4 c κs = search needs
 
 returns-4 : tie.Need-returns-4
 returns-4 c =
@@ -179,9 +158,6 @@ bytes-and-spelling-requires c κs =
     let r = c .before .before in
     r .read-numbers .ensures .numbers-are (sym (r .read-numbers .ensures .number-is) ∙ c .if5 .left)
 
-refused-requires-5 : tie.Need-refused-requires-5
-refused-requires-5 c κs = search needs
-
 returns-6 : tie.Need-returns-6
 returns-6 c =
     let b = c .before .before in
@@ -190,22 +166,10 @@ returns-6 c =
     (past-11 (b .before) ∙ rows-stop (spelling a) (drop 12 (rows a)) (b .bytes-and-spelling .result) (spelling-is b) (c .before .if6 .taken))
     (c .before .if6 .taken)
 
-bad-bytes-requires : tie.Need-bad-bytes-requires
-bad-bytes-requires c κs = search needs
-
-refused-requires-6 : tie.Need-refused-requires-6
-refused-requires-6 c κs = search needs
-
 returns-7 : tie.Need-returns-7
 returns-7 c =
     let a = at-6 (c .before .before .before) in
     refuse a (c .refused6 .result) 14 (c .refused6 .ensures) (past-13 (c .before .before .before) ∙ rw (← salt-is (c .before .before), c .before .if7 .taken)) (λ z. absurd (omega arith))
-
-bad-size-requires : tie.Need-bad-size-requires
-bad-size-requires c κs = search needs
-
-refused-requires-7 : tie.Need-refused-requires-7
-refused-requires-7 c κs = search needs
 
 returns-8 : tie.Need-returns-8
 returns-8 c =
@@ -221,26 +185,26 @@ pub judge-spec : {M : Type 1} → statement M
 judge-spec =
     tie.close
     (tie.spec
-    refused-requires
+    (λ c κs. search needs)
     returns
-    version-allowed-requires
-    refused-requires-2
+    (λ c κs. search needs)
+    (λ c κs. search needs)
     returns-2
-    limits-of-requires
-    refused-requires-3
+    (λ c κs. search needs)
+    (λ c κs. search needs)
     returns-3
-    is-misplaced-requires
-    refused-requires-4
+    (λ c κs. search needs)
+    (λ c κs. search needs)
     returns-4
     read-numbers-requires
     returns-5
     bytes-and-spelling-requires
-    refused-requires-5
+    (λ c κs. search needs)
     returns-6
-    bad-bytes-requires
-    refused-requires-6
+    (λ c κs. search needs)
+    (λ c κs. search needs)
     returns-7
-    bad-size-requires
-    refused-requires-7
+    (λ c κs. search needs)
+    (λ c κs. search needs)
     returns-8
     returns-9)

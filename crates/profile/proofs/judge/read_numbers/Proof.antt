@@ -90,9 +90,6 @@ below c =
 read-number-requires : tie.Need-read-number-requires
 read-number-requires c κs = in-place (c .before .before) .0
 
-refused-requires : tie.Need-refused-requires
-refused-requires c κs = search needs
-
 returns : tie.Need-returns
 returns c =
     let m = c .before .before .before in
@@ -103,9 +100,6 @@ returns c =
 
 read-number-requires-2 : tie.Need-read-number-requires-2
 read-number-requires-2 c κs = in-place (at-m (c .before .before .before)) .1
-
-refused-requires-2 : tie.Need-refused-requires-2
-refused-requires-2 c κs = search needs
 
 returns-2 : tie.Need-returns-2
 returns-2 c =
@@ -118,9 +112,6 @@ returns-2 c =
 read-number-requires-3 : tie.Need-read-number-requires-3
 read-number-requires-3 c κs = in-place (at-m (to-m (c .before .before .before))) .2
 
-refused-requires-3 : tie.Need-refused-requires-3
-refused-requires-3 c κs = search needs
-
 returns-3 : tie.Need-returns-3
 returns-3 c =
     let p = c .before .before .before in
@@ -128,9 +119,6 @@ returns-3 c =
     refuse a (c .refused3 .result) (p .read-number3 .result .number) (c .refused3 .ensures)
     (past-t (p .before .before) ∙ rows-stop (p-rows a) (last a) (p .read-number3 .result .number) (p .read-number3 .ensures .0) (c .before .if3 .taken))
     (c .before .if3 .taken)
-
-refused-requires-4 : tie.Need-refused-requires-4
-refused-requires-4 c κs = search needs
 
 returns-4 : tie.Need-returns-4
 returns-4 c =
@@ -153,14 +141,14 @@ read-numbers-spec =
     tie.close
     (tie.spec
     read-number-requires
-    refused-requires
+    (λ c κs. search needs)
     returns
     read-number-requires-2
-    refused-requires-2
+    (λ c κs. search needs)
     returns-2
     read-number-requires-3
-    refused-requires-3
+    (λ c κs. search needs)
     returns-3
-    refused-requires-4
+    (λ c κs. search needs)
     returns-4
     returns-5)

@@ -4,22 +4,10 @@ use Rattle.profile.specs.Limits.{editionTwo}
 use Rattle.profile.proofs.limits.argon2.Statement.{statement}
 use Rattle.profile.proofs.limits.argon2.Tie as tie
 
-sized-requires : tie.Need-sized-requires
-sized-requires c κs = search needs
-
-sized-requires-2 : tie.Need-sized-requires-2
-sized-requires-2 c κs = search needs
-
-sized-requires-3 : tie.Need-sized-requires-3
-sized-requires-3 c κs = search needs
-
-sized-requires-4 : tie.Need-sized-requires-4
-sized-requires-4 c κs = search needs
-
 returns : tie.Need-returns
 unfolding editionTwo
 returns c = rw (c .before .before .before .sized .ensures, c .before .before .sized2 .ensures, c .before .sized3 .ensures, c .sized4 .ensures)
 
 pub argon2-spec : {M : Type 1} → statement M
 argon2-spec =
-    tie.close (tie.spec sized-requires sized-requires-2 sized-requires-3 sized-requires-4 returns)
+    tie.close (tie.spec (λ c κs. search needs) (λ c κs. search needs) (λ c κs. search needs) (λ c κs. search needs) returns)

@@ -5,26 +5,14 @@ use Rattle.profile.proofs.LimitLaws.{limits-none, limits-argon2, limits
 use Rattle.profile.proofs.limits.limits_of.Statement.{statement}
 use Rattle.profile.proofs.limits.limits_of.Tie as tie
 
-nobody-requires : tie.Need-nobody-requires
-nobody-requires c κs = search needs
-
 returns : tie.Need-returns
 returns c = c .nobody .ensures ∙ sym (limits-none _ (c .before .if1 .taken))
-
-argon2-requires : tie.Need-argon2-requires
-argon2-requires c κs = search needs
 
 returns-2 : tie.Need-returns-2
 returns-2 c = c .argon2 .ensures ∙ sym (limits-argon2 _ (c .before .before .if1 .left) (c .before .if2 .taken))
 
-pbkdf2-requires : tie.Need-pbkdf2-requires
-pbkdf2-requires c κs = search needs
-
 returns-3 : tie.Need-returns-3
 returns-3 c = c .pbkdf2 .ensures ∙ sym (limits-pbkdf2 _ (c .before .before .if2 .left) (c .before .if3 .taken))
-
-nobody-requires-2 : tie.Need-nobody-requires-2
-nobody-requires-2 c κs = search needs
 
 returns-4 : tie.Need-returns-4
 returns-4 c = c .nobody2 .ensures ∙ sym (limits-past _ (c .before .if3 .left))
@@ -33,11 +21,11 @@ pub limits-of-spec : {M : Type 1} → statement M
 limits-of-spec =
     tie.close
     (tie.spec
-    nobody-requires
+    (λ c κs. search needs)
     returns
-    argon2-requires
+    (λ c κs. search needs)
     returns-2
-    pbkdf2-requires
+    (λ c κs. search needs)
     returns-3
-    nobody-requires-2
+    (λ c κs. search needs)
     returns-4)

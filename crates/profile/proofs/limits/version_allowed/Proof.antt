@@ -8,9 +8,6 @@ use Rattle.profile.proofs.limits.version_allowed.Tie as tie
 enum-told : tie.Need-enum-told
 enum-told c = search needs
 
-enum-known-version : tie.Need-enum-known-version
-enum-known-version c = search needs
-
 returns : tie.Need-returns
 returns c = rw (c .before .before .version .given .1) (sym (number-none _ _ (c .if1 .taken)))
 
@@ -29,4 +26,4 @@ returns-5 c = rw (c .before .before .before .before .version .given .1) (sym (se
 pub version-allowed-spec : {M : Type 1} → statement M
 version-allowed-spec =
     tie.close
-    (tie.spec enum-told enum-known-version returns returns-2 returns-3 returns-4 returns-5)
+    (tie.spec enum-told (λ c. search needs) returns returns-2 returns-3 returns-4 returns-5)

@@ -19,18 +19,12 @@ wrote : (id k : ℕ) (out left : List ℕ) (count : ℕ) → id ≡ k → Wrote 
     → Wrote (36 ∷ profileOf editionTwo id .name) out left count
 wrote id k out left count e w = subst (λ (i : ℕ). Wrote (36 ∷ profileOf editionTwo i .name) out left count) (sym e) w
 
-slice-aggregate-put-text : tie.Need-slice-aggregate-put-text
-slice-aggregate-put-text c = search needs
-
 put-text-requires : tie.Need-put-text-requires
 unfolding editionTwo
 put-text-requires c κs =
     let m = c .before .before in
     let s = m .before .before in
     room (s .args .id) 1 (now (s .args .out)) (m .match .keys1) (s .pre)
-
-slice-aggregate-put-text-2 : tie.Need-slice-aggregate-put-text-2
-slice-aggregate-put-text-2 c = search needs
 
 put-text-requires-2 : tie.Need-put-text-requires-2
 unfolding editionTwo
@@ -39,18 +33,12 @@ put-text-requires-2 c κs =
     let s = m .before .before in
     room (s .args .id) 2 (now (s .args .out)) (m .match .keys2) (s .pre)
 
-slice-aggregate-put-text-3 : tie.Need-slice-aggregate-put-text-3
-slice-aggregate-put-text-3 c = search needs
-
 put-text-requires-3 : tie.Need-put-text-requires-3
 unfolding editionTwo
 put-text-requires-3 c κs =
     let m = c .before .before in
     let s = m .before .before in
     room (s .args .id) 3 (now (s .args .out)) (m .match .keys3) (s .pre)
-
-slice-aggregate-put-text-4 : tie.Need-slice-aggregate-put-text-4
-slice-aggregate-put-text-4 c = search needs
 
 put-text-requires-4 : tie.Need-put-text-requires-4
 unfolding editionTwo
@@ -59,24 +47,12 @@ put-text-requires-4 c κs =
     let s = m .before .before in
     room (s .args .id) 4 (now (s .args .out)) (m .match .keys4) (s .pre)
 
-slice-aggregate-put-text-5 : tie.Need-slice-aggregate-put-text-5
-slice-aggregate-put-text-5 c = search needs
-
 put-text-requires-5 : tie.Need-put-text-requires-5
 unfolding editionTwo
 put-text-requires-5 c κs =
     let m = c .before .before in
     let s = m .before .before in
     room (s .args .id) 5 (now (s .args .out)) (m .match .keys5) (s .pre)
-
-slice-aggregate-put-text-6 : tie.Need-slice-aggregate-put-text-6
-slice-aggregate-put-text-6 c = search needs
-
-put-text-requires-6 : tie.Need-put-text-requires-6
-put-text-requires-6 c κs = search needs
-
-same-length : tie.Need-same-length
-same-length c = search needs
 
 returns : tie.Need-returns
 unfolding editionTwo
@@ -86,9 +62,6 @@ returns c =
     let s = m .before .before in
     wrote (s .args .id) 1 (now (s .args .out)) _ (d .put-text .result) (m .match .keys1) (d .put-text .ensures)
 
-same-length-2 : tie.Need-same-length-2
-same-length-2 c = search needs
-
 returns-2 : tie.Need-returns-2
 unfolding editionTwo
 returns-2 c =
@@ -96,9 +69,6 @@ returns-2 c =
     let m = d .before .before .before in
     let s = m .before .before in
     wrote (s .args .id) 2 (now (s .args .out)) _ (d .put-text2 .result) (m .match .keys2) (d .put-text2 .ensures)
-
-same-length-3 : tie.Need-same-length-3
-same-length-3 c = search needs
 
 returns-3 : tie.Need-returns-3
 unfolding editionTwo
@@ -108,9 +78,6 @@ returns-3 c =
     let s = m .before .before in
     wrote (s .args .id) 3 (now (s .args .out)) _ (d .put-text3 .result) (m .match .keys3) (d .put-text3 .ensures)
 
-same-length-4 : tie.Need-same-length-4
-same-length-4 c = search needs
-
 returns-4 : tie.Need-returns-4
 unfolding editionTwo
 returns-4 c =
@@ -119,9 +86,6 @@ returns-4 c =
     let s = m .before .before in
     wrote (s .args .id) 4 (now (s .args .out)) _ (d .put-text4 .result) (m .match .keys4) (d .put-text4 .ensures)
 
-same-length-5 : tie.Need-same-length-5
-same-length-5 c = search needs
-
 returns-5 : tie.Need-returns-5
 unfolding editionTwo
 returns-5 c =
@@ -129,9 +93,6 @@ returns-5 c =
     let m = d .before .before .before in
     let s = m .before .before in
     wrote (s .args .id) 5 (now (s .args .out)) _ (d .put-text5 .result) (m .match .keys5) (d .put-text5 .ensures)
-
-same-length-6 : tie.Need-same-length-6
-same-length-6 c = search needs
 
 returns-6 : tie.Need-returns-6
 returns-6 c =
@@ -145,27 +106,27 @@ pub put-name-spec : {M : Type 1} → statement M
 put-name-spec =
     tie.close
     (tie.spec
-    slice-aggregate-put-text
+    (λ c. search needs)
     put-text-requires
-    slice-aggregate-put-text-2
+    (λ c. search needs)
     put-text-requires-2
-    slice-aggregate-put-text-3
+    (λ c. search needs)
     put-text-requires-3
-    slice-aggregate-put-text-4
+    (λ c. search needs)
     put-text-requires-4
-    slice-aggregate-put-text-5
+    (λ c. search needs)
     put-text-requires-5
-    slice-aggregate-put-text-6
-    put-text-requires-6
-    same-length
+    (λ c. search needs)
+    (λ c κs. search needs)
+    (λ c. search needs)
     returns
-    same-length-2
+    (λ c. search needs)
     returns-2
-    same-length-3
+    (λ c. search needs)
     returns-3
-    same-length-4
+    (λ c. search needs)
     returns-4
-    same-length-5
+    (λ c. search needs)
     returns-5
-    same-length-6
+    (λ c. search needs)
     returns-6)

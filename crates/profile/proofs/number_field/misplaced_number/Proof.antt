@@ -7,12 +7,6 @@ use Rattle.profile.proofs.number_field.misplaced_number.Tie as tie
 enum-told : tie.Need-enum-told
 enum-told c = search needs
 
-enum-told-2 : tie.Need-enum-told-2
-enum-told-2 c = search needs
-
-enum-told-3 : tie.Need-enum-told-3
-enum-told-3 c = search needs
-
 returns : tie.Need-returns
 returns c = λ t. rw (c .before .enum-told .given .1) (missing-needed t (c .before .before .before .args .span) (c .before .enum-told .given .0 .0) (c .before .enum-told .given .0 .1 .0))
 
@@ -24,4 +18,4 @@ returns-3 c = λ t. rw (c .before .enum-told3 .given .1) (there-fixed t (c .befo
 
 pub misplaced-number-spec : {M : Type 1} → statement M
 misplaced-number-spec =
-    tie.close (tie.spec enum-told enum-told-2 enum-told-3 returns returns-2 returns-3)
+    tie.close (tie.spec enum-told (λ c. search needs) (λ c. search needs) returns returns-2 returns-3)

@@ -3,17 +3,11 @@ use borrow.Author.Needs.{needs}
 use Rattle.profile.proofs.number_field.number_len.Statement.{statement}
 use Rattle.profile.proofs.number_field.number_len.Tie as tie
 
-is-left-out-requires : tie.Need-is-left-out-requires
-is-left-out-requires c κs = search needs
-
 returns : tie.Need-returns
 returns c = rw (c .before .is-left-out .ensures, c .if1 .taken)
-
-decimal-len-requires : tie.Need-decimal-len-requires
-decimal-len-requires c κs = search needs
 
 returns-2 : tie.Need-returns-2
 returns-2 c = rw (c .before .before .is-left-out .ensures, c .before .if1 .left) (c .decimal-len .ensures)
 
 pub number-len-spec : {M : Type 1} → statement M
-number-len-spec = tie.close (tie.spec is-left-out-requires returns decimal-len-requires returns-2)
+number-len-spec = tie.close (tie.spec (λ c κs. search needs) returns (λ c κs. search needs) returns-2)

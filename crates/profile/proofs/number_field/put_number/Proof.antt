@@ -12,9 +12,6 @@ use Rattle.profile.proofs.number_field.put_number.Tie as tie
 there : (c : tie.Else1) → let a = c .before .before .before .before .args in writeNumber (a .rule) (a .n) ≡ some (digits (a .n))
 there c = rw (c .before .is-left-out .ensures, c .if1 .left)
 
-is-left-out-requires : tie.Need-is-left-out-requires
-is-left-out-requires c κs = search needs
-
 returns : tie.Need-returns
 returns c =
     let a = c .before .before .before .before .args in
@@ -22,9 +19,6 @@ returns c =
 
 put-decimal-requires : tie.Need-put-decimal-requires
 put-decimal-requires c κs = rw (there (c .before)) at (c .before .before .before .before .before .pre)
-
-same-length : tie.Need-same-length
-same-length c = search needs
 
 returns-2 : tie.Need-returns-2
 returns-2 c =
@@ -34,4 +28,4 @@ returns-2 c =
 pub put-number-spec : {M : Type 1} → statement M
 put-number-spec =
     tie.close
-    (tie.spec is-left-out-requires returns put-decimal-requires same-length returns-2)
+    (tie.spec (λ c κs. search needs) returns put-decimal-requires (λ c. search needs) returns-2)

@@ -14,19 +14,10 @@ use Rattle.profile.proofs.SlotLaws.{slot-none}
 use Rattle.profile.proofs.number_field.read_number.Statement.{statement}
 use Rattle.profile.proofs.number_field.read_number.Tie as tie
 
-given-of-requires : tie.Need-given-of-requires
-given-of-requires c κs = search needs
-
 returns : tie.Need-returns
 returns c =
     let a = c .before .before .before .before .args in
     rw (slot-none (now (a .t)) (a .span) (c .before .if1 .taken)) (refl, c .given-of .ensures)
-
-part-requires : tie.Need-part-requires
-part-requires c κs = search needs
-
-written-requires : tie.Need-written-requires
-written-requires c κs = search needs
 
 returns-2 : tie.Need-returns-2
 returns-2 c =
@@ -39,4 +30,4 @@ returns-2 c =
 
 pub read-number-spec : {M : Type 1} → statement M
 read-number-spec =
-    tie.close (tie.spec given-of-requires returns part-requires written-requires returns-2)
+    tie.close (tie.spec (λ c κs. search needs) returns (λ c κs. search needs) (λ c κs. search needs) returns-2)

@@ -8,33 +8,12 @@ use Rattle.profile.specs.Fields.{numberReading}
 use Rattle.profile.proofs.number_field.written.Statement.{statement}
 use Rattle.profile.proofs.number_field.written.Tie as tie
 
-lowest-of-requires : tie.Need-lowest-of-requires
-lowest-of-requires c κs = search needs
-
-cast-read-within : tie.Need-cast-read-within
-cast-read-within c = search needs
-
-highest-of-requires : tie.Need-highest-of-requires
-highest-of-requires c κs = search needs
-
-cast-read-within-2 : tie.Need-cast-read-within-2
-cast-read-within-2 c = search needs
-
-read-within-requires : tie.Need-read-within-requires
-read-within-requires c κs = search needs
-
 -- the reading, as the rule has it
 reading : (k : tie.After-read-within) → numberReading (k .before .before .before .before .args .rule) (now (k .before .before .before .before .args .text)) ≡ k .read-within .result
 reading k = rw (← k .before .before .lowest-of .ensures, ← k .before .highest-of .ensures) (sym (k .read-within .ensures))
 
 enum-told : tie.Need-enum-told
 enum-told c = search needs
-
-enum-told-2 : tie.Need-enum-told-2
-enum-told-2 c = search needs
-
-enum-known-n : tie.Need-enum-known-n
-enum-known-n c = search needs
 
 cast-t10 : tie.Need-cast-t10
 cast-t10 c =
@@ -55,14 +34,14 @@ pub written-spec : {M : Type 1} → statement M
 written-spec =
     tie.close
     (tie.spec
-    lowest-of-requires
-    cast-read-within
-    highest-of-requires
-    cast-read-within-2
-    read-within-requires
+    (λ c κs. search needs)
+    (λ c. search needs)
+    (λ c κs. search needs)
+    (λ c. search needs)
+    (λ c κs. search needs)
     enum-told
-    enum-told-2
-    enum-known-n
+    (λ c. search needs)
+    (λ c. search needs)
     cast-t10
     returns
     returns-2

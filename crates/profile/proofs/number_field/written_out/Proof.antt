@@ -8,14 +8,8 @@ use Rattle.profile.proofs.number_field.written_out.Tie as tie
 enum-told : tie.Need-enum-told
 enum-told c = search needs
 
-enum-known-rule : tie.Need-enum-known-rule
-enum-known-rule c = search needs
-
 returns : tie.Need-returns
 returns c = λ t e. rw (c .before .before .before .rule .given .1, slot-none t (c .before .before .before .before .before .args .span) (c .if1 .taken))
-
-enum-told-2 : tie.Need-enum-told-2
-enum-told-2 c = search needs
 
 returns-2 : tie.Need-returns-2
 returns-2 c = λ t e. rw (c .enum-told .given .1)
@@ -32,4 +26,4 @@ returns-4 c = λ t e. rw (c .enum-told2 .given .1)
 pub written-out-spec : {M : Type 1} → statement M
 written-out-spec =
     tie.close
-    (tie.spec enum-told enum-known-rule returns enum-told-2 returns-2 returns-3 returns-4)
+    (tie.spec enum-told (λ c. search needs) returns (λ c. search needs) returns-2 returns-3 returns-4)

@@ -6,12 +6,6 @@ use Rattle.profile.specs.Entries.{meaningOf, meaning}
 use Rattle.profile.proofs.reader.algorithm_version.Statement.{statement}
 use Rattle.profile.proofs.reader.algorithm_version.Tie as tie
 
-read-requires : tie.Need-read-requires
-read-requires c κs = search needs
-
-meant-version-requires : tie.Need-meant-version-requires
-meant-version-requires c κs = search needs
-
 returns : tie.Need-returns
 unfolding meaning
 returns c =
@@ -20,4 +14,4 @@ returns c =
     _∙_ {b = meaningOf editionTwo (r .result)} (λ i. record { number = r .result .number; version = v i }) (ap (meaningOf editionTwo) (r .ensures))
 
 pub algorithm-version-spec : {M : Type 1} → statement M
-algorithm-version-spec = tie.close (tie.spec read-requires meant-version-requires returns)
+algorithm-version-spec = tie.close (tie.spec (λ c κs. search needs) (λ c κs. search needs) returns)

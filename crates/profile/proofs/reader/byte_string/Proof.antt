@@ -6,23 +6,11 @@ use Rattle.profile.proofs.ReadLaws.{bytes-refused, bytes-decoded}
 use Rattle.profile.proofs.reader.byte_string.Statement.{statement}
 use Rattle.profile.proofs.reader.byte_string.Tie as tie
 
-read-whole-requires : tie.Need-read-whole-requires
-read-whole-requires c κs = search needs
-
 returns : tie.Need-returns
 returns c =
     let w = c .before .before in
     let a = w .before .before .before .args in
     bytes-refused (now (a .s)) (w .read-whole .result) (w .read-whole .ensures) (a .choice) (now (a .buf)) (a .at) (c .if1 .taken)
-
-text-of-requires : tie.Need-text-of-requires
-text-of-requires c κs = search needs
-
-decode-requires : tie.Need-decode-requires
-decode-requires c κs = search needs
-
-same-length : tie.Need-same-length
-same-length c = search needs
 
 returns-2 : tie.Need-returns-2
 returns-2 c =
@@ -36,4 +24,4 @@ returns-2 c =
 pub byte-string-spec : {M : Type 1} → statement M
 byte-string-spec =
     tie.close
-    (tie.spec read-whole-requires returns text-of-requires decode-requires same-length returns-2)
+    (tie.spec (λ c κs. search needs) returns (λ c κs. search needs) (λ c κs. search needs) (λ c. search needs) returns-2)

@@ -44,15 +44,9 @@ returns c = sym (absent (c .before) ∙ nobodys (c .before .before .before .args
 returns-2 : tie.Need-returns-2
 returns-2 c = sym (absent (c .before .before) ∙ others (c .before .before .before .before .args .id) (c .if2 .taken))
 
-enum-known-version : tie.Need-enum-known-version
-enum-known-version c = search needs
-
 returns-3 : tie.Need-returns-3
 returns-3 c = sym (absent (c .before .before) ∙ argon2s (c .before .before .before .before .args .id) (c .before .if1 .left) (c .if2 .left))
 
-returns-4 : tie.Need-returns-4
-returns-4 c = search needs
-
 pub meant-version-spec : {M : Type 1} → statement M
 meant-version-spec =
-    tie.close (tie.spec enum-told returns returns-2 enum-known-version returns-3 returns-4)
+    tie.close (tie.spec enum-told returns returns-2 (λ c. search needs) returns-3 (λ c. search needs))

@@ -38,28 +38,10 @@ said j =
     (λ (t : List ℕ). Judged (rowsFor editionTwo id (j .before .before .before .before .version-in .result) (slotsIn t v) (v .strange) (slotIn s (a .args .places .salt)) (slotIn s (a .args .places .output))) (limitsOf (profileOf editionTwo id)) (slotsIn t v) (j .judge .result))
     (j .before .before .before .part2 .ensures) (j .judge .ensures)
 
-part-requires : tie.Need-part-requires
-part-requires c κs = search needs
-
-id-number-requires : tie.Need-id-number-requires
-id-number-requires c κs = search needs
-
-version-in-requires : tie.Need-version-in-requires
-version-in-requires c κs = search needs
-
-part-requires-2 : tie.Need-part-requires-2
-part-requires-2 c κs = search needs
-
 values-at-requires : tie.Need-values-at-requires
 values-at-requires c κs =
     let a = c .before .before .before .before .before .before .before .before .before .before .before in
     part-items (now (a .args .s)) (a .pre .0) (a .args .places) (a .pre .1) (now (c .before .part2 .result)) (c .before .part2 .ensures)
-
-judge-requires : tie.Need-judge-requires
-judge-requires c κs = search needs
-
-refused-requires : tie.Need-refused-requires
-refused-requires c κs = search needs
 
 returns : tie.Need-returns
 returns c =
@@ -70,9 +52,6 @@ returns c =
     whole-refused (now (a .args .s)) _
     (c .refused .ensures ∙ reading-refused editionTwo (now (a .args .s)) (j .judge .result .number) q n)
     (λ z. n (sym (ap (λ (x : Reading). x .number) (c .refused .ensures)) ∙ z))
-
-kind-of-requires : tie.Need-kind-of-requires
-kind-of-requires c κs = search needs
 
 returns-2 : tie.Need-returns-2
 returns-2 c =
@@ -88,13 +67,13 @@ pub read-pieces-spec : {M : Type 1} → statement M
 read-pieces-spec =
     tie.close
     (tie.spec
-    part-requires
-    id-number-requires
-    version-in-requires
-    part-requires-2
+    (λ c κs. search needs)
+    (λ c κs. search needs)
+    (λ c κs. search needs)
+    (λ c κs. search needs)
     values-at-requires
-    judge-requires
-    refused-requires
+    (λ c κs. search needs)
+    (λ c κs. search needs)
     returns
-    kind-of-requires
+    (λ c κs. search needs)
     returns-2)

@@ -11,15 +11,6 @@ use Rattle.profile.proofs.ReadLaws.{answer-refused, reading-refused, wh
 use Rattle.profile.proofs.reader.read_whole.Statement.{statement}
 use Rattle.profile.proofs.reader.read_whole.Tie as tie
 
-read-requires : tie.Need-read-requires
-read-requires c κs = search needs
-
-refused-requires : tie.Need-refused-requires
-refused-requires c κs = search needs
-
-no-values-requires : tie.Need-no-values-requires
-no-values-requires c κs = search needs
-
 returns : tie.Need-returns
 returns c =
     let r = c .before .before .before .before in
@@ -36,16 +27,13 @@ read-pieces-requires c κs =
     let e : grammarNumber s ≡ 0 = sym (ap (λ (l : Layout). l .number) (r .read .ensures) ∙ layout-number s) ∙ c .if1 .left in
     (e, ap (λ (l : Layout). l .places) (r .read .ensures ∙ layout-accepted s e))
 
-returns-2 : tie.Need-returns-2
-returns-2 c = search needs
-
 pub read-whole-spec : {M : Type 1} → statement M
 read-whole-spec =
     tie.close
     (tie.spec
-    read-requires
-    refused-requires
-    no-values-requires
+    (λ c κs. search needs)
+    (λ c κs. search needs)
+    (λ c κs. search needs)
     returns
     read-pieces-requires
-    returns-2)
+    (λ c. search needs))

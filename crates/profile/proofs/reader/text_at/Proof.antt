@@ -7,20 +7,8 @@ use Rattle.profile.proofs.SlotLaws.{slot-none, slot-some}
 use Rattle.profile.proofs.reader.text_at.Statement.{statement}
 use Rattle.profile.proofs.reader.text_at.Tie as tie
 
-sub-result : tie.Need-sub-result
-sub-result c = search needs
-
-part-result-start : tie.Need-part-result-start
-part-result-start c = search needs
-
-part-result-end : tie.Need-part-result-end
-part-result-end c = search needs
-
 returns : tie.Need-returns
 returns c = sym (ap textOf (slot-none (now (c .before .before .before .before .args .t)) (c .before .before .before .before .args .span) (c .before .if1 .taken)))
-
-part-requires : tie.Need-part-requires
-part-requires c κs = search needs
 
 returns-2 : tie.Need-returns-2
 returns-2 c = c .part .ensures ∙ sym (ap textOf (slot-some (now (c .before .before .before .before .args .t)) (c .before .before .before .before .args .span) (c .before .if1 .left)))
@@ -28,4 +16,4 @@ returns-2 c = c .part .ensures ∙ sym (ap textOf (slot-some (now (c .before .be
 pub text-at-spec : {M : Type 1} → statement M
 text-at-spec =
     tie.close
-    (tie.spec sub-result part-result-start part-result-end returns part-requires returns-2)
+    (tie.spec (λ c. search needs) (λ c. search needs) (λ c. search needs) returns (λ c κs. search needs) returns-2)

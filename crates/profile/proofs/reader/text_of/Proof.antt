@@ -6,33 +6,6 @@ use Rattle.profile.proofs.reader.text_of.Tie as tie
 enum-told : tie.Need-enum-told
 enum-told c = search needs
 
-part-requires : tie.Need-part-requires
-part-requires c κs = search needs
-
-text-at-requires : tie.Need-text-at-requires
-text-at-requires c κs = search needs
-
-enum-told-2 : tie.Need-enum-told-2
-enum-told-2 c = search needs
-
-part-requires-2 : tie.Need-part-requires-2
-part-requires-2 c κs = search needs
-
-text-at-requires-2 : tie.Need-text-at-requires-2
-text-at-requires-2 c κs = search needs
-
-enum-told-3 : tie.Need-enum-told-3
-enum-told-3 c = search needs
-
-text-at-requires-3 : tie.Need-text-at-requires-3
-text-at-requires-3 c κs = search needs
-
-enum-told-4 : tie.Need-enum-told-4
-enum-told-4 c = search needs
-
-text-at-requires-4 : tie.Need-text-at-requires-4
-text-at-requires-4 c κs = search needs
-
 returns : tie.Need-returns
 returns c = rw (c .before .before .enum-told .given .1, c .text-at .ensures, c .before .part .ensures)
 
@@ -50,15 +23,15 @@ text-of-spec =
     tie.close
     (tie.spec
     enum-told
-    part-requires
-    text-at-requires
-    enum-told-2
-    part-requires-2
-    text-at-requires-2
-    enum-told-3
-    text-at-requires-3
-    enum-told-4
-    text-at-requires-4
+    (λ c κs. search needs)
+    (λ c κs. search needs)
+    (λ c. search needs)
+    (λ c κs. search needs)
+    (λ c κs. search needs)
+    (λ c. search needs)
+    (λ c κs. search needs)
+    (λ c. search needs)
+    (λ c κs. search needs)
     returns
     returns-2
     returns-3

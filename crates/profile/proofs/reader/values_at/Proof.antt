@@ -10,11 +10,8 @@ values-in-requires c κs = c .before .before .pre (c .if1 .taken)
 returns : tie.Need-returns
 returns c = rw (c .before .if1 .taken) (c .values-in .ensures)
 
-no-values-requires : tie.Need-no-values-requires
-no-values-requires c κs = search needs
-
 returns-2 : tie.Need-returns-2
 returns-2 c = rw (c .before .if1 .left) (c .no-values .ensures (now (c .before .before .before .args .params)))
 
 pub values-at-spec : {M : Type 1} → statement M
-values-at-spec = tie.close (tie.spec values-in-requires returns no-values-requires returns-2)
+values-at-spec = tie.close (tie.spec values-in-requires returns (λ c κs. search needs) returns-2)

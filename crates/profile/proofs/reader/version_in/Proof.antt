@@ -29,9 +29,6 @@ short (c ∷ d ∷ t) h = absurd (omega arith)
 returns : tie.Need-returns
 returns c = let a = c .before .before .before .args in rw (slot-none (now (a .s)) (a .span) (c .if1 .taken))
 
-part-requires : tie.Need-part-requires
-part-requires c κs = search needs
-
 -- the version where there is a part
 there : (k : tie.After-part) → readVersion (slotIn (now (k .before .before .before .before .args .s)) (k .before .before .before .before .args .span))
     ≡ Number (limitedValue (limitedReading 0 largestVersion (drop 2 (now (k .part .result)))))
@@ -42,26 +39,8 @@ there k =
 returns-2 : tie.Need-returns-2
 returns-2 c = sym (there (c .before) ∙ ap {B = Version} Number (short (now (c .before .part .result)) (c .if2 .taken)))
 
-sub-read-within : tie.Need-sub-read-within
-sub-read-within c = search needs
-
-part-read-within-start : tie.Need-part-read-within-start
-part-read-within-start c = search needs
-
-part-read-within-end : tie.Need-part-read-within-end
-part-read-within-end c = search needs
-
-read-within-requires : tie.Need-read-within-requires
-read-within-requires c κs = search needs
-
 enum-told : tie.Need-enum-told
 enum-told c = search needs
-
-enum-told-2 : tie.Need-enum-told-2
-enum-told-2 c = search needs
-
-enum-known-n : tie.Need-enum-known-n
-enum-known-n c = search needs
 
 -- the outcome of the reader, and the version by it
 read : (k : tie.After-read-within) → k .read-within .result ≡ limitedReading 0 largestVersion (drop 2 (now (k .before .before .before .part .result)))
@@ -91,15 +70,15 @@ version-in-spec =
     tie.close
     (tie.spec
     returns
-    part-requires
+    (λ c κs. search needs)
     returns-2
-    sub-read-within
-    part-read-within-start
-    part-read-within-end
-    read-within-requires
+    (λ c. search needs)
+    (λ c. search needs)
+    (λ c. search needs)
+    (λ c κs. search needs)
     enum-told
-    enum-told-2
-    enum-known-n
+    (λ c. search needs)
+    (λ c. search needs)
     cast-t12
     returns-3
     returns-4

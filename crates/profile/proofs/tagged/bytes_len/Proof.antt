@@ -9,8 +9,9 @@ use Rattle.b64.specs.B64.{encode}
 use Rattle.b64.proofs.B64Laws.{length-encode}
 use Rattle.profile.specs.Limits.{room}
 use Rattle.profile.specs.Fields.{writeBytes}
-use Rattle.profile.specs.WriterSteps.{taggedLength}
-use Rattle.profile.proofs.WriterLaws.{no-bytes, some-bytes}
+use Rattle.profile.specs.PieceTexts.{taggedLength}
+use Rattle.profile.proofs.WriterLaws.{some-bytes}
+use Rattle.text.proofs.Lists.{length-nil}
 use Rattle.profile.proofs.tagged.bytes_len.Statement.{statement}
 use Rattle.profile.proofs.tagged.bytes_len.Tie as tie
 
@@ -27,10 +28,7 @@ counted : (c : tie.After-encoded-len) → c .encoded-len .result .0 ≡ length (
 counted c = omega (arith, c .encoded-len .ensures, length-encode (now (at-else (c .before) .args .bytes)), fits (c .before))
 
 returns : tie.Need-returns
-returns c = rw (no-bytes (now (c .before .before .args .bytes)) (c .if1 .taken))
-
-encoded-len-requires : tie.Need-encoded-len-requires
-encoded-len-requires c κs = search needs
+returns c = rw (length-nil (now (c .before .before .args .bytes)) (c .if1 .taken))
 
 add-result : tie.Need-add-result
 add-result c = omega (arith, counted (c .before), fits (c .before .before))
@@ -39,4 +37,4 @@ returns-2 : tie.Need-returns-2
 returns-2 c = rw (there (c .before .before)) (omega (arith, counted (c .before)))
 
 pub bytes-len-spec : {M : Type 1} → statement M
-bytes-len-spec = tie.close (tie.spec returns encoded-len-requires add-result returns-2)
+bytes-len-spec = tie.close (tie.spec returns (λ c κs. search needs) add-result returns-2)

@@ -5,9 +5,6 @@ use Rattle.decimal.proofs.DecimalLaws.{length-digits}
 use Rattle.profile.proofs.tagged.decimal_len.Statement.{statement}
 use Rattle.profile.proofs.tagged.decimal_len.Tie as tie
 
-unsigned-len-requires : tie.Need-unsigned-len-requires
-unsigned-len-requires c κs = search needs
-
 add-result : tie.Need-add-result
 add-result c =
     let s = c .before .before in
@@ -17,4 +14,4 @@ returns : tie.Need-returns
 returns c = omega (arith, c .before .unsigned-len .ensures)
 
 pub decimal-len-spec : {M : Type 1} → statement M
-decimal-len-spec = tie.close (tie.spec unsigned-len-requires add-result returns)
+decimal-len-spec = tie.close (tie.spec (λ c κs. search needs) add-result returns)

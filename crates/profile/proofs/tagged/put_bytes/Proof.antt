@@ -9,9 +9,10 @@ use lib.ListN.{length, length-append}
 use Rattle.text.specs.Place.{outcome, put, Wrote}
 use Rattle.b64.specs.B64.{encode}
 use Rattle.profile.specs.Fields.{writeBytes}
-use Rattle.profile.specs.WriterSteps.{tagged}
+use Rattle.profile.specs.PieceTexts.{tagged}
 use Rattle.text.proofs.Wrote.{wrote-nothing, wrote-more}
-use Rattle.profile.proofs.WriterLaws.{no-bytes, some-bytes}
+use Rattle.profile.proofs.WriterLaws.{some-bytes}
+use Rattle.text.proofs.Lists.{length-nil}
 use Rattle.profile.proofs.tagged.put_bytes.Statement.{statement}
 use Rattle.profile.proofs.tagged.put_bytes.Tie as tie
 
@@ -41,23 +42,17 @@ wrote c d₁ d₂ a e =
 returns : tie.Need-returns
 returns c =
     let s = c .before .before .before .before in
-    rw (no-bytes (now (s .args .bytes)) (c .if1 .taken)) (wrote-nothing (now (s .args .out)))
+    rw (length-nil (now (s .args .bytes)) (c .if1 .taken)) (wrote-nothing (now (s .args .out)))
 
 put-text-requires : tie.Need-put-text-requires
 put-text-requires c κs =
     let s = at-else (c .before) in
     omega (arith, length-append (now (s .args .tag)) (encode (now (s .args .bytes))), room (c .before))
 
-encode-requires : tie.Need-encode-requires
-encode-requires c κs = search needs
-
 add-result : tie.Need-add-result
 add-result c =
     let w = c .before .before .before in
     omega (arith, wrote w _ _ (w .before .before .before .before .put-text .ensures) (w .encode .ensures) .count-is, room (left w))
-
-same-length : tie.Need-same-length
-same-length c = search needs
 
 returns-2 : tie.Need-returns-2
 returns-2 c =
@@ -70,7 +65,7 @@ put-bytes-spec =
     (tie.spec
     returns
     put-text-requires
-    encode-requires
+    (λ c κs. search needs)
     add-result
-    same-length
+    (λ c. search needs)
     returns-2)

@@ -30,16 +30,10 @@ put-text-requires c κs =
     let s = c .before .before .before in
     omega (arith, length-append (now (s .args .tag)) (digits (s .args .n)), s .pre)
 
-write-unsigned-requires : tie.Need-write-unsigned-requires
-write-unsigned-requires c κs = search needs
-
 add-result : tie.Need-add-result
 add-result c =
     let w = c .before .before .before in
     omega (arith, wrote w _ _ (w .before .before .before .before .put-text .ensures) (w .write-unsigned .ensures) .count-is, start w .pre)
-
-same-length : tie.Need-same-length
-same-length c = search needs
 
 returns : tie.Need-returns
 returns c =
@@ -51,7 +45,7 @@ put-decimal-spec =
     tie.close
     (tie.spec
     put-text-requires
-    write-unsigned-requires
+    (λ c κs. search needs)
     add-result
-    same-length
+    (λ c. search needs)
     returns)

@@ -5,12 +5,6 @@ use Rattle.text.proofs.Wrote.{wrote-start}
 use Rattle.profile.proofs.tagged.put_text.Statement.{statement}
 use Rattle.profile.proofs.tagged.put_text.Tie as tie
 
-write-text-requires : tie.Need-write-text-requires
-write-text-requires c κs = search needs
-
-same-length : tie.Need-same-length
-same-length c = search needs
-
 returns : tie.Need-returns
 returns c =
     let w = c .before .before in
@@ -18,4 +12,4 @@ returns c =
     wrote-start (now (s .args .out)) _ (now (s .args .text)) (w .write-text .result .number) (w .write-text .result .count .0) (s .pre) (w .write-text .ensures)
 
 pub put-text-spec : {M : Type 1} → statement M
-put-text-spec = tie.close (tie.spec write-text-requires same-length returns)
+put-text-spec = tie.close (tie.spec (λ c κs. search needs) (λ c. search needs) returns)

@@ -15,25 +15,10 @@ returns c =
     let a = c .before .before .before .args in
     step-past (now (a .params)) (now (a .name)) (a .at) (c .if1 .taken)
 
-next-at-requires : tie.Need-next-at-requires
-next-at-requires c κs = search needs
-
-next-at-requires-2 : tie.Need-next-at-requires-2
-next-at-requires-2 c κs = search needs
-
-sub-same-text : tie.Need-sub-same-text
-sub-same-text c = search needs
-
-part-same-text-start : tie.Need-part-same-text-start
-part-same-text-start c = search needs
-
 part-same-text-end : tie.Need-part-same-text-end
 part-same-text-end c =
     let a = c .before .before .before .before .before .args in
     omega (arith, c .next-at2 .ensures, find-from-le 61 (now (a .params)) (a .at) (omega arith))
-
-same-text-requires : tie.Need-same-text-requires
-same-text-requires c κs = search needs
 
 -- the equals sign stands before the end, and the end in the piece
 order : (c : tie.After-next-at2) → c .next-at2 .result + 1 < c .before .next-at .result
@@ -74,12 +59,12 @@ take-value-spec =
     tie.close
     (tie.spec
     returns
-    next-at-requires
-    next-at-requires-2
-    sub-same-text
-    part-same-text-start
+    (λ c κs. search needs)
+    (λ c κs. search needs)
+    (λ c. search needs)
+    (λ c. search needs)
     part-same-text-end
-    same-text-requires
+    (λ c κs. search needs)
     add-start
     sub-t16
     add-t19

@@ -9,32 +9,17 @@ use Rattle.profile.proofs.ValueLaws.{on, values-are}
 use Rattle.profile.proofs.values.values_in.Statement.{statement}
 use Rattle.profile.proofs.values.values_in.Tie as tie
 
-slice-aggregate-take-value : tie.Need-slice-aggregate-take-value
-slice-aggregate-take-value c = search needs
-
 take-value-requires : tie.Need-take-value-requires
 take-value-requires c κs = ap (all isItem) (sym (items-start (now (c .before .before .args .params)))) ∙ c .before .before .pre
-
-slice-aggregate-take-value-2 : tie.Need-slice-aggregate-take-value-2
-slice-aggregate-take-value-2 c = search needs
 
 take-value-requires-2 : tie.Need-take-value-requires-2
 take-value-requires-2 c κs = on (c .before .take-value .ensures) (take-value-requires (c .before .before) κs)
 
-slice-aggregate-take-value-3 : tie.Need-slice-aggregate-take-value-3
-slice-aggregate-take-value-3 c = search needs
-
 take-value-requires-3 : tie.Need-take-value-requires-3
 take-value-requires-3 c κs = on (c .before .take-value2 .ensures) (take-value-requires-2 (c .before .before) κs)
 
-slice-aggregate-take-value-4 : tie.Need-slice-aggregate-take-value-4
-slice-aggregate-take-value-4 c = search needs
-
 take-value-requires-4 : tie.Need-take-value-requires-4
 take-value-requires-4 c κs = on (c .before .take-value3 .ensures) (take-value-requires-3 (c .before .before) κs)
-
-slice-aggregate-take-value-5 : tie.Need-slice-aggregate-take-value-5
-slice-aggregate-take-value-5 c = search needs
 
 take-value-requires-5 : tie.Need-take-value-requires-5
 take-value-requires-5 c κs = on (c .before .take-value4 .ensures) (take-value-requires-4 (c .before .before) κs)
@@ -53,14 +38,14 @@ pub values-in-spec : {M : Type 1} → statement M
 values-in-spec =
     tie.close
     (tie.spec
-    slice-aggregate-take-value
+    (λ c. search needs)
     take-value-requires
-    slice-aggregate-take-value-2
+    (λ c. search needs)
     take-value-requires-2
-    slice-aggregate-take-value-3
+    (λ c. search needs)
     take-value-requires-3
-    slice-aggregate-take-value-4
+    (λ c. search needs)
     take-value-requires-4
-    slice-aggregate-take-value-5
+    (λ c. search needs)
     take-value-requires-5
     returns)

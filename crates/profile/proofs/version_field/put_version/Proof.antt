@@ -8,12 +8,6 @@ use Rattle.profile.proofs.version_field.put_version.Tie as tie
 enum-told : tie.Need-enum-told
 enum-told c = search needs
 
-enum-known-version : tie.Need-enum-known-version
-enum-known-version c = search needs
-
-slice-aggregate-put-decimal : tie.Need-slice-aggregate-put-decimal
-slice-aggregate-put-decimal c = search needs
-
 put-decimal-requires : tie.Need-put-decimal-requires
 put-decimal-requires c κs =
     let v = c .before .before .before in
@@ -21,9 +15,6 @@ put-decimal-requires c κs =
 
 returns : tie.Need-returns
 returns c = rw (c .enum-told .given .1) (wrote-nothing (now (c .before .before .before .args .out)))
-
-same-length : tie.Need-same-length
-same-length c = search needs
 
 returns-2 : tie.Need-returns-2
 returns-2 c =
@@ -35,9 +26,9 @@ put-version-spec =
     tie.close
     (tie.spec
     enum-told
-    enum-known-version
-    slice-aggregate-put-decimal
+    (λ c. search needs)
+    (λ c. search needs)
     put-decimal-requires
     returns
-    same-length
+    (λ c. search needs)
     returns-2)

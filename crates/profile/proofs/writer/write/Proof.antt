@@ -1,20 +1,20 @@
 -- `profile::writer::write` meets its contract: a row, no room, or the string in the part from the place on. Assumes nothing.
-use Prim.Native.Nat.{_+_, _≤_}
-use mathlib.Core.Bool.{true}
-use mathlib.Core.Path.{_≡_, sym, _∙_}
+use Prim.Native.Nat.{ℕ, _-_, _≤_}
+use mathlib.Core.List.{List}
+use mathlib.Core.Path.{_≡_, sym, ap, subst, _∙_}
 use native.Mathlib.Omega.{arith}
 use borrow.Author.Needs.{needs}
 use borrow.Author.Tests.{not-true, not-false}
 use denote.Ref.{now}
-use lib.ListN.{length, length-drop}
-use Rattle.text.specs.Place.{hasRoom}
-use Rattle.text.proofs.Writing.{put-refused, tail-part}
-use Rattle.profile.specs.Limits.{profileOf, editionTwo}
+use lib.ListN.{length, take, drop}
+use Rattle.text.specs.Place.{over, put}
+use Rattle.text.proofs.Writing.{put-refused}
+use Rattle.text.proofs.Writers.{Asked, writer-fits, writer-full, writer-room, writer-over}
+use Rattle.profile.specs.Limits.{editionTwo}
 use Rattle.profile.specs.Fields.{FieldSet, fieldSet}
 use Rattle.profile.specs.Writer.{refusal, formatted}
 use Rattle.profile.specs.Entries.{writing}
-use Rattle.profile.specs.WriterSteps.{piecesText}
-use Rattle.profile.proofs.WriterLaws.{fits-room, write-full, room-text, write-done}
+use Rattle.profile.proofs.WriterLaws.{fits-room, text-by, string-asked, writing-clear}
 use Rattle.profile.proofs.writer.write.Statement.{statement}
 use Rattle.profile.proofs.writer.write.Tie as tie
 
@@ -31,9 +31,6 @@ at-limits c = at-refusal (c .before .before)
 clear : (c : tie.After-limits-of) → refusal editionTwo (fields (at-limits c)) ≡ 0
 clear c = sym (c .before .before .refusal-of .ensures) ∙ c .before .if1 .left
 
-refusal-of-requires : tie.Need-refusal-of-requires
-refusal-of-requires c κs = search needs
-
 returns : tie.Need-returns
 unfolding writing
 returns c =
@@ -41,52 +38,39 @@ returns c =
     let s = at-refusal r in
     put-refused (now (s .args .buf)) (s .args .at) (formatted editionTwo (fields s)) (refusal editionTwo (fields s)) (r .refusal-of .result) (sym (r .refusal-of .ensures)) (omega (arith, c .if1 .taken))
 
-limits-of-requires : tie.Need-limits-of-requires
-limits-of-requires c κs = search needs
-
 string-len-requires : tie.Need-string-len-requires
 string-len-requires c κs = fits-room (fields (at-limits c)) (c .limits-of .result) (c .limits-of .ensures) (clear c)
 
-has-room-requires : tie.Need-has-room-requires
-has-room-requires c κs = search needs
+asked : (c : tie.After-has-room)
+    → let s = at-limits (c .before .before) in
+    Asked (now (s .args .buf)) (s .args .at) (formatted editionTwo (fields s)) (c .before .string-len .result) (c .has-room .result)
+asked c =
+    let l = c .before .before in
+    let s = at-limits l in
+    string-asked (fields s) (l .limits-of .result) (l .limits-of .ensures) (clear l) (now (s .args .buf)) (s .args .at) (c .before .string-len .result) (c .before .string-len .ensures) (c .has-room .result) (c .has-room .ensures)
+
+-- what the writer gives where no row applies
+cleared : (c : tie.After-limits-of)
+    → let s = at-limits c in
+    put (now (s .args .buf)) (s .args .at) (formatted editionTwo (fields s)) ≡ writing editionTwo (fields s) (now (s .args .buf)) (s .args .at)
+cleared c =
+    let s = at-limits c in
+    sym (writing-clear (fields s) (c .limits-of .result) (c .limits-of .ensures) (clear c) (now (s .args .buf)) (s .args .at))
 
 returns-2 : tie.Need-returns-2
-returns-2 c =
-    let h = c .before in
-    let l = h .before .before in
-    let s = at-limits l in
-    write-full (fields s) (l .limits-of .result) (l .limits-of .ensures) (clear l) (now (s .args .buf)) (s .args .at) (h .before .string-len .result) (h .before .string-len .ensures)
-    (sym (h .has-room .ensures) ∙ not-true _ (c .if2 .taken))
+returns-2 c = writer-full (asked (c .before)) (not-true _ (c .if2 .taken)) ∙ cleared (c .before .before .before)
 
--- the string fits
-roomy : (c : tie.Else2)
-    → let s = at-limits (c .before .before .before) in
-    hasRoom (length (now (s .args .buf))) (s .args .at) (c .before .before .string-len .result) ≡ true
-roomy c = sym (c .before .has-room .ensures) ∙ not-false _ (c .if2 .left)
-
-room : (c : tie.Else2)
-    → let l = c .before .before .before in
-    let s = at-limits l in
-    s .args .at + length (piecesText (l .limits-of .result) (profileOf editionTwo (s .args .n .id) .name) (fields s)) ≤ length (now (s .args .buf))
-room c =
-    let l = c .before .before .before in
-    let s = at-limits l in
-    room-text (fields s) (l .limits-of .result) (l .limits-of .ensures) (clear l) (now (s .args .buf)) (s .args .at) (c .before .before .string-len .result) (c .before .before .string-len .ensures) (roomy c)
-
-sub-put-string : tie.Need-sub-put-string
-sub-put-string c = omega (arith, room c)
-
-part-put-string-start : tie.Need-part-put-string-start
-part-put-string-start c = omega (arith, room c)
-
-part-put-string-end : tie.Need-part-put-string-end
-part-put-string-end c = search needs
+inside : tie.Need-sub-put-string
+inside c = omega (arith, writer-fits (asked (c .before)) (not-false _ (c .if2 .left)))
 
 put-string-requires : tie.Need-put-string-requires
-put-string-requires c κs = rw (tail-part, length-drop) (omega (arith, room (c .before)))
-
-same-length : tie.Need-same-length
-same-length c = search needs
+put-string-requires c κs =
+    let h = c .before .before in
+    let l = h .before .before in
+    let s = at-limits l in
+    let b = now (s .args .buf) in
+    subst (λ (t : List ℕ). length t ≤ length (take (length b - s .args .at) (drop (s .args .at) b))) (text-by (fields s) (l .limits-of .result) (l .limits-of .ensures) (clear l))
+    (writer-room (asked h) (not-false _ (c .before .if2 .left)))
 
 returns-3 : tie.Need-returns-3
 returns-3 c =
@@ -94,22 +78,24 @@ returns-3 c =
     let e = p .before .before in
     let l = e .before .before .before in
     let s = at-limits l in
-    write-done (fields s) (l .limits-of .result) (l .limits-of .ensures) (clear l) (now (s .args .buf)) (s .args .at) (e .before .before .string-len .result) (e .before .before .string-len .ensures) (roomy e)
-    _ (p .put-string .result) (p .put-string .ensures)
+    let b = now (s .args .buf) in
+    writer-over (asked (e .before)) (not-false _ (e .if2 .left)) _
+    (p .put-string .ensures .left ∙ ap (over (take (length b - s .args .at) (drop (s .args .at) b)) 0) (sym (text-by (fields s) (l .limits-of .result) (l .limits-of .ensures) (clear l))))
+    ∙ cleared l
 
 pub write-spec : {M : Type 1} → statement M
 write-spec =
     tie.close
     (tie.spec
-    refusal-of-requires
+    (λ c κs. search needs)
     returns
-    limits-of-requires
+    (λ c κs. search needs)
     string-len-requires
-    has-room-requires
+    (λ c κs. search needs)
     returns-2
-    sub-put-string
-    part-put-string-start
-    part-put-string-end
+    inside
+    inside
+    (λ c. search needs)
     put-string-requires
-    same-length
+    (λ c. search needs)
     returns-3)

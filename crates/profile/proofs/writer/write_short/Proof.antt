@@ -6,21 +6,6 @@ use Rattle.profile.proofs.Shorts.{short-by}
 use Rattle.profile.proofs.writer.write_short.Statement.{statement}
 use Rattle.profile.proofs.writer.write_short.Tie as tie
 
-usual-fields-requires : tie.Need-usual-fields-requires
-usual-fields-requires c κs = search needs
-
-slice-aggregate-write : tie.Need-slice-aggregate-write
-slice-aggregate-write c = search needs
-
-slice-aggregate-write-2 : tie.Need-slice-aggregate-write-2
-slice-aggregate-write-2 c = search needs
-
-write-requires : tie.Need-write-requires
-write-requires c κs = search needs
-
-same-length : tie.Need-same-length
-same-length c = search needs
-
 returns : tie.Need-returns
 returns c =
     let w = c .before .before in
@@ -32,9 +17,9 @@ pub write-short-spec : {M : Type 1} → statement M
 write-short-spec =
     tie.close
     (tie.spec
-    usual-fields-requires
-    slice-aggregate-write
-    slice-aggregate-write-2
-    write-requires
-    same-length
+    (λ c κs. search needs)
+    (λ c. search needs)
+    (λ c. search needs)
+    (λ c κs. search needs)
+    (λ c. search needs)
     returns)

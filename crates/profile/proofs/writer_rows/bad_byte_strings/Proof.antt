@@ -6,7 +6,8 @@ use denote.Ref.{now}
 use lib.ListN.{drop}
 use Rattle.text.specs.Rows.{firstOf}
 use Rattle.profile.specs.Writer.{bytesRows}
-use Rattle.profile.proofs.WriterLaws.{not-empty, unsalted, no-output}
+use Rattle.profile.proofs.WriterLaws.{unsalted, no-output}
+use Rattle.text.proofs.Lists.{length-filled}
 use Rattle.profile.proofs.writer_rows.bad_byte_strings.Statement.{statement}
 use Rattle.profile.proofs.writer_rows.bad_byte_strings.Tie as tie
 
@@ -39,26 +40,14 @@ past-3 c = past-2 (c .before .before) ∙ rw (← c .before .bytes-allowed3 .ens
 past-4 : (c : tie.Else4) → past 0 (at-4 c) ≡ past 4 (at-4 c)
 past-4 c = past-3 (c .before .before) ∙ rw (← c .before .bytes-allowed4 .ensures, c .if4 .left)
 
-bytes-allowed-requires : tie.Need-bytes-allowed-requires
-bytes-allowed-requires c κs = search needs
-
 returns : tie.Need-returns
 returns c = sym (rw (← c .before .bytes-allowed .ensures, c .if1 .taken))
-
-bytes-allowed-requires-2 : tie.Need-bytes-allowed-requires-2
-bytes-allowed-requires-2 c κs = search needs
 
 returns-2 : tie.Need-returns-2
 returns-2 c = sym (past-1 (c .before .before) ∙ rw (← c .before .bytes-allowed2 .ensures, c .if2 .taken))
 
-bytes-allowed-requires-3 : tie.Need-bytes-allowed-requires-3
-bytes-allowed-requires-3 c κs = search needs
-
 returns-3 : tie.Need-returns-3
 returns-3 c = sym (past-2 (c .before .before) ∙ rw (← c .before .bytes-allowed3 .ensures, c .if3 .taken))
-
-bytes-allowed-requires-4 : tie.Need-bytes-allowed-requires-4
-bytes-allowed-requires-4 c κs = search needs
 
 returns-4 : tie.Need-returns-4
 returns-4 c = sym (past-3 (c .before .before) ∙ rw (← c .before .bytes-allowed4 .ensures, c .if4 .taken))
@@ -66,7 +55,7 @@ returns-4 c = sym (past-3 (c .before .before) ∙ rw (← c .before .bytes-allow
 returns-5 : tie.Need-returns-5
 returns-5 c =
     let s = at-4 (c .before) in
-    sym (past-4 (c .before) ∙ rw (not-empty (now (s .args .salt)) (c .if5 .taken)))
+    sym (past-4 (c .before) ∙ rw (length-filled (now (s .args .salt)) (c .if5 .taken)))
 
 returns-6 : tie.Need-returns-6
 returns-6 c =
@@ -84,13 +73,13 @@ pub bad-byte-strings-spec : {M : Type 1} → statement M
 bad-byte-strings-spec =
     tie.close
     (tie.spec
-    bytes-allowed-requires
+    (λ c κs. search needs)
     returns
-    bytes-allowed-requires-2
+    (λ c κs. search needs)
     returns-2
-    bytes-allowed-requires-3
+    (λ c κs. search needs)
     returns-3
-    bytes-allowed-requires-4
+    (λ c κs. search needs)
     returns-4
     returns-5
     returns-6

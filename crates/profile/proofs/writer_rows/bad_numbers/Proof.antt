@@ -23,20 +23,11 @@ past-2 c = past-1 (c .before .before) ∙ rw (← c .before .in-range2 .ensures,
 past-3 : (c : tie.Else3) → let s = c .before .before .before .before .before .before in past 0 s ≡ past 3 s
 past-3 c = past-2 (c .before .before) ∙ rw (← c .before .in-range3 .ensures, c .if3 .left)
 
-in-range-requires : tie.Need-in-range-requires
-in-range-requires c κs = search needs
-
 returns : tie.Need-returns
 returns c = sym (rw (← c .before .in-range .ensures, c .if1 .taken))
 
-in-range-requires-2 : tie.Need-in-range-requires-2
-in-range-requires-2 c κs = search needs
-
 returns-2 : tie.Need-returns-2
 returns-2 c = sym (past-1 (c .before .before) ∙ rw (← c .before .in-range2 .ensures, c .if2 .taken))
-
-in-range-requires-3 : tie.Need-in-range-requires-3
-in-range-requires-3 c κs = search needs
 
 returns-3 : tie.Need-returns-3
 returns-3 c = sym (past-2 (c .before .before) ∙ rw (← c .before .in-range3 .ensures, c .if3 .taken))
@@ -57,11 +48,11 @@ pub bad-numbers-spec : {M : Type 1} → statement M
 bad-numbers-spec =
     tie.close
     (tie.spec
-    in-range-requires
+    (λ c κs. search needs)
     returns
-    in-range-requires-2
+    (λ c κs. search needs)
     returns-2
-    in-range-requires-3
+    (λ c κs. search needs)
     returns-3
     returns-4
     returns-5)

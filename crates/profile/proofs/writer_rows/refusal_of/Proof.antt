@@ -51,33 +51,18 @@ past-9 c = past-8 (c .before .before) ∙ rw (← c .before .version-allowed .en
 numbers-are : (c : tie.After-bad-numbers) → c .bad-numbers .result ≡ firstOf (numbers (at-3 c))
 numbers-are c = c .bad-numbers .ensures ∙ ap (λ (l : Limits). firstOf (rangeRows l (at-3 c .args .n))) (c .before .limits-of .ensures)
 
-is-known-requires : tie.Need-is-known-requires
-is-known-requires c κs = search needs
-
 returns : tie.Need-returns
 unfolding refusal
 returns c = sym (rw (← c .before .is-known .ensures, c .if1 .taken))
 
-version-allowed-requires : tie.Need-version-allowed-requires
-version-allowed-requires c κs = search needs
-
 returns-2 : tie.Need-returns-2
 returns-2 c = sym (past-8 (c .before .before) ∙ rw (← c .before .version-allowed .ensures, c .if2 .taken))
-
-limits-of-requires : tie.Need-limits-of-requires
-limits-of-requires c κs = search needs
-
-bad-numbers-requires : tie.Need-bad-numbers-requires
-bad-numbers-requires c κs = search needs
 
 returns-3 : tie.Need-returns-3
 returns-3 c =
     let b = c .before in
     let s = at-3 b in
     sym (past-9 (b .before .before) ∙ rows-stop (numbers s) (strings s) (b .bad-numbers .result) (numbers-are b) (c .if3 .taken))
-
-bad-byte-strings-requires : tie.Need-bad-byte-strings-requires
-bad-byte-strings-requires c κs = search needs
 
 returns-4 : tie.Need-returns-4
 returns-4 c =
@@ -93,12 +78,12 @@ pub refusal-of-spec : {M : Type 1} → statement M
 refusal-of-spec =
     tie.close
     (tie.spec
-    is-known-requires
+    (λ c κs. search needs)
     returns
-    version-allowed-requires
+    (λ c κs. search needs)
     returns-2
-    limits-of-requires
-    bad-numbers-requires
+    (λ c κs. search needs)
+    (λ c κs. search needs)
     returns-3
-    bad-byte-strings-requires
+    (λ c κs. search needs)
     returns-4)

@@ -4,17 +4,8 @@ use borrow.Author.Needs.{needs}
 use Rattle.profile.proofs.writer_text.costs_len.Statement.{statement}
 use Rattle.profile.proofs.writer_text.costs_len.Tie as tie
 
-number-len-requires : tie.Need-number-len-requires
-number-len-requires c κs = search needs
-
-number-len-requires-2 : tie.Need-number-len-requires-2
-number-len-requires-2 c κs = search needs
-
 add-result : tie.Need-add-result
 add-result c = omega (arith, c .number-len2 .ensures, c .before .number-len .ensures, c .before .before .pre)
-
-number-len-requires-3 : tie.Need-number-len-requires-3
-number-len-requires-3 c κs = search needs
 
 add-result-2 : tie.Need-add-result-2
 add-result-2 c = omega (arith, c .number-len3 .ensures, c .before .number-len2 .ensures, c .before .before .number-len .ensures, c .before .before .before .pre)
@@ -26,9 +17,9 @@ pub costs-len-spec : {M : Type 1} → statement M
 costs-len-spec =
     tie.close
     (tie.spec
-    number-len-requires
-    number-len-requires-2
+    (λ c κs. search needs)
+    (λ c κs. search needs)
     add-result
-    number-len-requires-3
+    (λ c κs. search needs)
     add-result-2
     returns)

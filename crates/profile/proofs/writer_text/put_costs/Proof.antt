@@ -9,7 +9,7 @@ use lib.ListN.{length}
 use Rattle.text.specs.Text.{text}
 use Rattle.profile.specs.Fields.{writeNumber}
 use Rattle.text.specs.Place.{Wrote}
-use Rattle.profile.specs.WriterSteps.{tagged}
+use Rattle.profile.specs.PieceTexts.{tagged}
 use Rattle.text.proofs.Wrote.{wrote-then, RoomFor, room-then, room-first}
 use Rattle.profile.proofs.writer_text.put_costs.Statement.{statement}
 use Rattle.profile.proofs.writer_text.put_costs.Tie as tie
@@ -78,23 +78,14 @@ room₃ b =
     let s = start a in
     room-then (out s) (left₂ b) (t₁ s ++ t₂ s) (t₃ s) (a .put-number .result + b .put-number2 .result) (s .pre) (wrote₂ b)
 
-slice-aggregate-put-number : tie.Need-slice-aggregate-put-number
-slice-aggregate-put-number c = search needs
-
 put-number-requires : tie.Need-put-number-requires
 put-number-requires c κs = let s = c .before .before .before in room-first (out s) (t₁ s) (t₂ s) (two s)
-
-slice-aggregate-put-number-2 : tie.Need-slice-aggregate-put-number-2
-slice-aggregate-put-number-2 c = search needs
 
 sub-put-number : tie.Need-sub-put-number
 sub-put-number c = room₂ (c .before .before .before) .0
 
 part-put-number-start : tie.Need-part-put-number-start
 part-put-number-start c = room₂ (c .before .before .before) .0
-
-part-put-number-end : tie.Need-part-put-number-end
-part-put-number-end c = search needs
 
 put-number-requires-2 : tie.Need-put-number-requires-2
 put-number-requires-2 c κs = room₂ (c .before .before .before .before) .1
@@ -104,17 +95,11 @@ add-after-t c =
     let b = c .before .before in
     omega (arith, wrote₂ b .count-is, two (start (first b)), small (start (first b)))
 
-slice-aggregate-put-number-3 : tie.Need-slice-aggregate-put-number-3
-slice-aggregate-put-number-3 c = search needs
-
 sub-put-number-2 : tie.Need-sub-put-number-2
 sub-put-number-2 c = room₃ (c .before .before .before) .0
 
 part-put-number-start-2 : tie.Need-part-put-number-start-2
 part-put-number-start-2 c = room₃ (c .before .before .before) .0
-
-part-put-number-end-2 : tie.Need-part-put-number-end-2
-part-put-number-end-2 c = search needs
 
 put-number-requires-3 : tie.Need-put-number-requires-3
 put-number-requires-3 c κs = room₃ (c .before .before .before .before) .1
@@ -125,9 +110,6 @@ add-result c =
     let s = start (first (second d)) in
     omega (arith, wrote₃ d .count-is, s .pre, small s)
 
-same-length : tie.Need-same-length
-same-length c = search needs
-
 returns : tie.Need-returns
 returns c = wrote₃ (c .before .before)
 
@@ -135,19 +117,19 @@ pub put-costs-spec : {M : Type 1} → statement M
 put-costs-spec =
     tie.close
     (tie.spec
-    slice-aggregate-put-number
+    (λ c. search needs)
     put-number-requires
-    slice-aggregate-put-number-2
+    (λ c. search needs)
     sub-put-number
     part-put-number-start
-    part-put-number-end
+    (λ c. search needs)
     put-number-requires-2
     add-after-t
-    slice-aggregate-put-number-3
+    (λ c. search needs)
     sub-put-number-2
     part-put-number-start-2
-    part-put-number-end-2
+    (λ c. search needs)
     put-number-requires-3
     add-result
-    same-length
+    (λ c. search needs)
     returns)

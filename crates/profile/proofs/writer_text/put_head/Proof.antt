@@ -10,7 +10,7 @@ use Rattle.text.specs.Text.{text}
 use Rattle.profile.specs.Limits.{profileOf, editionTwo}
 use Rattle.profile.specs.Fields.{writeVersion}
 use Rattle.text.specs.Place.{Wrote}
-use Rattle.profile.specs.WriterSteps.{tagged, itemsText, dollared}
+use Rattle.profile.specs.PieceTexts.{tagged, itemsText, dollared}
 use Rattle.text.proofs.Wrote.{wrote-then, RoomFor, room-then, room-first}
 use Rattle.profile.proofs.writer_text.put_head.Statement.{statement}
 use Rattle.profile.proofs.writer_text.put_head.Tie as tie
@@ -88,9 +88,6 @@ sub-put-version c = room₂ (c .before .before) .0
 part-put-version-start : tie.Need-part-put-version-start
 part-put-version-start c = room₂ (c .before .before) .0
 
-part-put-version-end : tie.Need-part-put-version-end
-part-put-version-end c = search needs
-
 put-version-requires : tie.Need-put-version-requires
 put-version-requires c κs = room₂ (c .before .before .before) .1
 
@@ -105,9 +102,6 @@ sub-put-params c = room₃ (c .before .before) .0
 part-put-params-start : tie.Need-part-put-params-start
 part-put-params-start c = room₃ (c .before .before) .0
 
-part-put-params-end : tie.Need-part-put-params-end
-part-put-params-end c = search needs
-
 put-params-requires : tie.Need-put-params-requires
 put-params-requires c κs = room₃ (c .before .before .before) .1
 
@@ -116,9 +110,6 @@ add-result c =
     let d = c .before .before in
     let s = start (first (second d)) in
     omega (arith, wrote₃ d .count-is, s .pre, small s)
-
-same-length : tie.Need-same-length
-same-length c = search needs
 
 returns : tie.Need-returns
 returns c = wrote₃ (c .before .before)
@@ -130,13 +121,13 @@ put-head-spec =
     put-name-requires
     sub-put-version
     part-put-version-start
-    part-put-version-end
+    (λ c. search needs)
     put-version-requires
     add-after-version
     sub-put-params
     part-put-params-start
-    part-put-params-end
+    (λ c. search needs)
     put-params-requires
     add-result
-    same-length
+    (λ c. search needs)
     returns)

@@ -5,7 +5,7 @@ use native.Mathlib.Omega.{arith}
 use borrow.Author.Needs.{needs}
 use denote.Ref.{now}
 use lib.ListN.{length}
-use Rattle.profile.specs.WriterSteps.{itemsText}
+use Rattle.profile.specs.PieceTexts.{itemsText}
 use Rattle.profile.proofs.Texts.{dollared-length}
 use Rattle.text.proofs.Wrote.{wrote-length}
 use Rattle.profile.proofs.WriterLaws.{wrote-none, wrote-dollar}
@@ -24,9 +24,6 @@ fits s = omega (arith, dollared-length (items s), s .pre)
 put-items-requires : tie.Need-put-items-requires
 put-items-requires c κs = fits (c .before .before .before .before)
 
-same-length : tie.Need-same-length
-same-length c = search needs
-
 returns : tie.Need-returns
 returns c =
     let w = c .before .before .before in
@@ -38,9 +35,6 @@ slice-write-out c =
     let s = start w in
     omega (arith, c .if1 .left, w .put-items .ensures .count-is, fits s, wrote-length (now (s .args .out)) _ (items s) (w .put-items .result) (fits s) (w .put-items .ensures))
 
-same-length-2 : tie.Need-same-length-2
-same-length-2 c = search needs
-
 returns-2 : tie.Need-returns-2
 returns-2 c =
     let w = c .before .before .before in
@@ -49,4 +43,4 @@ returns-2 c =
 pub put-params-spec : {M : Type 1} → statement M
 put-params-spec =
     tie.close
-    (tie.spec put-items-requires same-length returns slice-write-out same-length-2 returns-2)
+    (tie.spec put-items-requires (λ c. search needs) returns slice-write-out (λ c. search needs) returns-2)

@@ -10,7 +10,7 @@ use Rattle.text.specs.Text.{text}
 use Rattle.profile.specs.Limits.{profileOf, editionTwo}
 use Rattle.profile.specs.Fields.{writeBytes}
 use Rattle.text.specs.Place.{Wrote}
-use Rattle.profile.specs.WriterSteps.{tagged, headText}
+use Rattle.profile.specs.PieceTexts.{tagged, headText}
 use Rattle.text.proofs.Wrote.{wrote-then, RoomFor, room-then, room-first}
 use Rattle.profile.proofs.writer_text.put_string.Statement.{statement}
 use Rattle.profile.proofs.writer_text.put_string.Tie as tie
@@ -82,17 +82,11 @@ room₃ b =
 put-head-requires : tie.Need-put-head-requires
 put-head-requires c κs = let s = c .before .before .before .before .before .before in room-first (out s) (t₁ s) (t₂ s) (two s)
 
-slice-aggregate-put-bytes : tie.Need-slice-aggregate-put-bytes
-slice-aggregate-put-bytes c = search needs
-
 sub-put-bytes : tie.Need-sub-put-bytes
 sub-put-bytes c = room₂ (c .before .before .before) .0
 
 part-put-bytes-start : tie.Need-part-put-bytes-start
 part-put-bytes-start c = room₂ (c .before .before .before) .0
-
-part-put-bytes-end : tie.Need-part-put-bytes-end
-part-put-bytes-end c = search needs
 
 put-bytes-requires : tie.Need-put-bytes-requires
 put-bytes-requires c κs = room₂ (c .before .before .before .before) .1
@@ -102,17 +96,11 @@ add-after-salt c =
     let b = c .before .before in
     omega (arith, wrote₂ b .count-is, two (start (first b)), small (start (first b)))
 
-slice-aggregate-put-bytes-2 : tie.Need-slice-aggregate-put-bytes-2
-slice-aggregate-put-bytes-2 c = search needs
-
 sub-put-bytes-2 : tie.Need-sub-put-bytes-2
 sub-put-bytes-2 c = room₃ (c .before .before .before) .0
 
 part-put-bytes-start-2 : tie.Need-part-put-bytes-start-2
 part-put-bytes-start-2 c = room₃ (c .before .before .before) .0
-
-part-put-bytes-end-2 : tie.Need-part-put-bytes-end-2
-part-put-bytes-end-2 c = search needs
 
 put-bytes-requires-2 : tie.Need-put-bytes-requires-2
 put-bytes-requires-2 c κs = room₃ (c .before .before .before .before) .1
@@ -123,9 +111,6 @@ add-result c =
     let s = start (first (second d)) in
     omega (arith, wrote₃ d .count-is, s .pre, small s)
 
-same-length : tie.Need-same-length
-same-length c = search needs
-
 returns : tie.Need-returns
 returns c = wrote₃ (c .before .before)
 
@@ -134,17 +119,17 @@ put-string-spec =
     tie.close
     (tie.spec
     put-head-requires
-    slice-aggregate-put-bytes
+    (λ c. search needs)
     sub-put-bytes
     part-put-bytes-start
-    part-put-bytes-end
+    (λ c. search needs)
     put-bytes-requires
     add-after-salt
-    slice-aggregate-put-bytes-2
+    (λ c. search needs)
     sub-put-bytes-2
     part-put-bytes-start-2
-    part-put-bytes-end-2
+    (λ c. search needs)
     put-bytes-requires-2
     add-result
-    same-length
+    (λ c. search needs)
     returns)

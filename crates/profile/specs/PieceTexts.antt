@@ -1,4 +1,5 @@
--- What the private steps of the writer promise each other. Nothing here is a rule: no public contract cites it.
+-- The string that fields are written to as texts one after the other, each behind its tag, with their lengths: the writer's steps cite it, and
+-- the readers above. It is `formatted` (proofs/Texts.antt), so it is no rule of its own.
 -- Assumes nothing.
 use Prim.Native.Nat.{ℕ, _+_}
 use mathlib.Core.List.{List, [], _∷_, _++_}

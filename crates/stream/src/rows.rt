@@ -1,0 +1,110 @@
+// Rows of the listing, part by part of the input.
+use accounts::limits::MOST_KEPT;
+use accounts::listing::Listed;
+use accounts::listing::end;
+use accounts::listing::next;
+use libc::STDOUT_FILENO;
+ghost use Prim.Native.Nat.{_≤_};
+ghost use mathlib.Core.Path.{_≡_};
+ghost use lib.ListN.{length};
+
+// The bytes kept of the unfinished line, its number, the bytes of output that wait, and whether every write so far succeeded.
+pub struct State {
+    pub kept: usize,
+    pub line: u64,
+    pub used: usize,
+    pub open: bool,
+}
+
+fn least(a: usize, b: usize) -> usize
+    ensures { λ r. ⌜ (r ≤ a) × (r ≤ b) ⌝ }
+{
+    if a < b { a } else { b }
+}
+
+// The bytes that wait after `count` more; never past the buffer.
+fn waiting(out: &[u8], used: usize, count: usize) -> usize
+    ensures { λ r. ⌜ r ≤ length (now (out .entry)) ⌝ }
+{
+    let waits = least(used, out.len());
+    waits + least(count, out.len() - waits)
+}
+
+// Writes what waits; false where that fails.
+fn flush(out: &[u8], used: usize) -> bool {
+    let n = least(used, out.len());
+    io::write_all(STDOUT_FILENO, &out[0..n])
+}
+
+// The rows of the lines that end in a part; when no more fit, those that wait are written.
+pub fn take_part(array: &mut [u8; MOST_KEPT], out: &mut [u8], part: &[u8], begun: State) -> State
+    ensures { λ r. ⌜ r .used ≤ length (now (out .entry)) ⌝ }
+{
+    let mut kept = begun.kept;
+    let mut line = begun.line;
+    let mut used = begun.used;
+    let mut from: usize = 0;
+    let mut turns = u64::MAX;
+    while turns > 0 {
+        match next(array, kept, line, part, from, out, used) {
+            Listed::Row {
+                place,
+                count,
+                line: number,
+            } => {
+                used = waiting(&out[..], used, count.0);
+                from = place;
+                kept = 0;
+                line = number;
+            }
+            Listed::UsedUp { kept: more } => {
+                return State {
+                    kept: more,
+                    line,
+                    used: least(used, out.len()),
+                    open: true,
+                };
+            }
+            Listed::NoRoom => {
+                if !flush(&out[..], used) {
+                    return State {
+                        kept,
+                        line,
+                        used: 0,
+                        open: false,
+                    };
+                }
+                used = 0;
+            }
+        }
+        turns -= 1;
+    }
+    State {
+        kept,
+        line,
+        used: least(used, out.len()),
+        open: true,
+    }
+}
+
+// The row of the last line, and what waits. A row that doesn't fit goes into the emptied buffer.
+pub fn finish(array: &[u8; MOST_KEPT], out: &mut [u8], state: State)
+    ensures { λ _. ⌜ length (now (out .exit)) ≡ length (now (out .entry)) ⌝ }
+{
+    if !state.open {
+        return;
+    }
+    let used = state.used;
+    let w = end(array, state.kept, state.line, out, used);
+    if w.number == 0 {
+        let count = w.count;
+        flush(&out[..], waiting(&out[..], used, count.0));
+        return;
+    }
+    if !flush(&out[..], used) {
+        return;
+    }
+    let again = end(array, state.kept, state.line, out, 0);
+    let count = again.count;
+    flush(&out[..], waiting(&out[..], 0, count.0));
+}

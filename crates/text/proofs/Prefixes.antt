@@ -1,0 +1,52 @@
+-- The first elements of a list: how many are taken, what is kept of more, and what depends on them alone.
+-- Assumes nothing.
+use Prim.Native.Nat.{ℕ, zero, suc, _+_, _-_, _≤_, min}
+use mathlib.Core.Bool.{Bool, true, false}
+use mathlib.Core.List.{List, [], _∷_, _++_, append-assoc}
+use mathlib.Core.Path.{_≡_, refl, sym, ap, _∙_}
+use native.Mathlib.Nat.{zero-min, min-zero, suc-min-suc}
+use native.Mathlib.Omega.{arith}
+use lib.Dec.{leb}
+use lib.ListN.{length, take, drop, length-append, length-take}
+use lib.Seq.{length-take-le, take-all, take-append-add}
+use borrow.Author.Tests.{leb-true, leb-false}
+use Rattle.text.specs.Place.{over}
+
+pub take-min : (d : List ℕ) (n : ℕ) → take (min n (length d)) d ≡ take n d
+take-min d zero = rw zero-min
+take-min [] (suc n) = rw min-zero
+take-min (a ∷ d) (suc n) = rw suc-min-suc (ap (λ (v : List ℕ). a ∷ v) (take-min d n))
+
+-- what is cut off does not count where more is taken and cut
+pub take-cut : (n : ℕ) (u t : List ℕ) → take n (take n u ++ t) ≡ take n (u ++ t)
+take-cut zero u t = refl
+take-cut (suc n) [] t = refl
+take-cut (suc n) (a ∷ u) t = ap (λ (v : List ℕ). a ∷ v) (take-cut n u t)
+
+-- the first n of a kept prefix and more
+pub take-prefix : (n : ℕ) (d s : List ℕ) (held : ℕ) → held ≤ n → held ≤ length d → take n (take held d ++ s) ≡ take held d ++ take (n - held) s
+take-prefix n d s held l h =
+    let c : length (take held d) ≡ held = length-take-le held d h in
+    let k : n ≡ length (take held d) + (n - held) = omega arith in
+    ap (λ (m : ℕ). take m (take held d ++ s)) k ∙ take-append-add (take held d) s (n - held)
+
+-- written after the first bytes of a buffer: they and the text, written from its start
+pub over-prefix : (d t : List ℕ) (held : ℕ) → held ≤ length d → over d held t ≡ over d 0 (take held d ++ t)
+over-prefix d t held h =
+    let c : length (take held d) ≡ held = length-take-le held d h in
+    let z : held + length t ≡ 0 + length (take held d ++ t) = omega (arith, length-append (take held d) t) in
+    ap (λ (m : ℕ). take held d ++ (t ++ drop m d)) z ∙ sym (append-assoc (take held d) t (drop (0 + length (take held d ++ t)) d))
+
+-- what is the same for all lists of n elements and more depends on the first n alone
+module _ {A : Type 0} (F : List ℕ → A) (n : ℕ) (x : A) (long : (l : List ℕ) → n ≤ length l → F l ≡ x) where
+  by-prefix : (l : List ℕ) → F (take n l) ≡ F l
+  by-prefix l = go (leb (length l) n) refl
+    where
+      go : (q : Bool) → leb (length l) n ≡ q → F (take n l) ≡ F l
+      go true e = ap F (take-all n l (leb-true (length l) n e))
+      go false e =
+          let h = leb-false (length l) n e in
+          long (take n l) (omega (arith, length-take n l)) ∙ sym (long l (omega arith))
+
+  pub same-prefix : (u v : List ℕ) → take n u ≡ take n v → F u ≡ F v
+  same-prefix u v e = sym (by-prefix u) ∙ ap F e ∙ by-prefix v

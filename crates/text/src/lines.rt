@@ -1,0 +1,28 @@
+// The lines of a text, one after the other: a line ends at a line feed.
+use crate::scan::next_at;
+ghost use Prim.Native.Nat.{_+_, min};
+ghost use mathlib.Core.Path.{_≡_};
+ghost use lib.ListN.{length, drop};
+ghost use Rattle.text.specs.Text.{cut, nextAt};
+
+// The line at a place, without its line feed; empty past the end.
+pub fn line_at(s: &[u8], at: usize) -> &[u8]
+    ensures { λ r. ⌜ now r ≡ cut 10 (drop at (now (s .entry))) .0 ⌝ }
+{
+    if s.len() <= at {
+        return &s[0..0];
+    }
+    let end = next_at(s, at, b'\n');
+    &s[at..end]
+}
+
+// The place after that line and its line feed; the end where no line follows.
+pub fn after_line(s: &[u8], at: usize) -> usize
+    ensures { λ r. ⌜ r ≡ min (nextAt 10 (now (s .entry)) at + 1) (length (now (s .entry))) ⌝ }
+{
+    let end = next_at(s, at, b'\n');
+    if end < s.len() {
+        return end + 1;
+    }
+    s.len()
+}
