@@ -8,12 +8,12 @@ use mathlib.Core.Path.{_≡_, refl, sym, ap, _∙_}
 use native.Mathlib.Omega.{arith}
 use lib.Dec.{eqb}
 use lib.ListN.{length, take, drop, length-take, length-drop}
-use lib.Seq.{append-snoc, take-take, drop-drop}
+use lib.Seq.{append-snoc, take-take}
 use borrow.Author.Tests.{leb-true, le-leb}
 use Rattle.text.specs.Text.{has, find, cut, cutByte, concat}
 use Rattle.text.specs.Place.{outcome, hasRoom, over, put}
 use Rattle.text.proofs.Lists.{has-append, cut-free, cut-whole, take-free}
-use Rattle.text.proofs.Splitting.{cut-after, find-inside}
+use Rattle.text.proofs.Splitting.{find-inside, cut-past}
 use Rattle.text.proofs.Writing.{put-zero, over-back}
 use Rattle.text.proofs.Over.{length-over}
 use Rattle.accounts.specs.Lines.{lastLine, linesFrom, lineAnswer}
@@ -115,7 +115,7 @@ module _ (d : List ℕ) (kept n : ℕ) (p : List ℕ) (from : ℕ) (buffer : Lis
   text = rowText n (lineAnswer (heldOf d kept ++ cut 10 rest .0))
 
   record RowSays (place count line : ℕ) : Type 0 where
-    find-inside : has 10 rest ≡ true
+    there : has 10 rest ≡ true
     array-is : array ≡ d
     wrote : take count (drop at left) ≡ text
     place-is : place ≡ suc (from + find 10 rest)
@@ -133,7 +133,7 @@ module _ (d : List ℕ) (kept n : ℕ) (p : List ℕ) (from : ℕ) (buffer : Lis
           let c : length text ≡ count = ap (λ (x : Fed). count-of (x .listed)) e in
           let l : over buffer at text ≡ left = ap (λ (x : Fed). x .buffer) e in
           record {
-            find-inside = h;
+            there = h;
             array-is = sym (ap (λ (x : Fed). x .array) e);
             wrote = sym (λ i. take (c i) (drop at (l i))) ∙ over-back buffer text at (omega (arith, leb-true (at + length text) (length buffer) t));
             place-is = sym (ap (λ (x : Fed). place-of (x .listed)) e);
@@ -180,11 +180,6 @@ pub left-zero : (ps : List (List ℕ)) → leftOf 0 ps ≡ concat ps
 left-zero [] = refl
 left-zero (p ∷ ps) = refl
 
-past : (p : List ℕ) (from place : ℕ) → place ≡ suc (from + find 10 (drop from p)) → drop place p ≡ cut 10 (drop from p) .1
-past p from place e =
-    let q : place ≡ from + (find 10 (drop from p) + 1) = omega arith in
-    ap (λ (k : ℕ). drop k p) q ∙ sym (drop-drop (find 10 (drop from p) + 1) from p) ∙ sym (cut-after 10 (drop from p))
-
 pub held-none : (d : List ℕ) → heldOf d 0 ≡ []
 unfolding heldOf
 held-none d = refl
@@ -204,8 +199,8 @@ run-left (row {d} {kept} {n} {from} {p} {ps} buffer at {place} {count} {line} {a
     let s = drop from p in
     let i = run-left r (ap length (q .array-is) ∙ h) in
     let more : rest ≡ rowsFrom (nextLine n) (linesFrom [] (cut 10 s .1 ++ concat ps)) =
-    i ∙ ap (λ (u : List ℕ). rowsFrom line (linesFrom u (drop place p ++ concat ps))) (held-none array) ∙ (λ j. rowsFrom (q .line-is j) (linesFrom [] (past p from place (q .place-is) j ++ concat ps))) in
-    (λ j. q .wrote j ++ more j) ∙ ap (rowsFrom n) (sym (from-line s (heldOf d kept) (concat ps) (q .find-inside)))
+    i ∙ ap (λ (u : List ℕ). rowsFrom line (linesFrom u (drop place p ++ concat ps))) (held-none array) ∙ (λ j. rowsFrom (q .line-is j) (linesFrom [] (cut-past 10 p from place (q .place-is) j ++ concat ps))) in
+    (λ j. q .wrote j ++ more j) ∙ ap (rowsFrom n) (sym (from-line s (heldOf d kept) (concat ps) (q .there)))
 run-left (full {d} {kept} {n} {from} {p} {ps} buffer at {array} {left} {rest} e r) h =
     let q = full-says d kept n p from buffer at array left e in
     run-left r (ap length q ∙ h) ∙ ap (λ (x : List ℕ). rowsFrom n (linesFrom (heldOf x kept) (leftOf from (p ∷ ps)))) q
@@ -222,7 +217,7 @@ run-left (used {d} {kept} {n} {from} {p} {ps} buffer at {more} {array} {left} {r
     ∙ ap (rowsFrom n) (sym (from-plain s (heldOf d kept) (concat ps) (q .none)))
 run-left (end {d} {kept} {n} buffer at {count} {left} e) h = end-says d kept n buffer at count left e
 
--- ---- find-inside is a run from every state over all parts: the calls come to an end
+-- ---- there is a run from every state over all parts: the calls come to an end
 
 abbrev Runs : List ℕ → ℕ → ℕ → ℕ → List (List ℕ) → Type 0
 Runs d kept n from ps = (written : List ℕ) × Calls d kept n from ps written

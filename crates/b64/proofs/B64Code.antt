@@ -1,6 +1,7 @@
--- What the code of B64 needs: the end of a text, the bytes that a rest of a text completes, and what the stores of the encoder leave.
+-- What the code of B64 needs: the end of a text, the bytes that a rest of a text completes, what the stores of the encoder leave, and four
+-- sextets as one number.
 -- Assumes nothing.
-use Prim.Native.Nat.{ℕ, zero, suc, _+_, _-_, _*_, _%_, _<_, _≤_}
+use Prim.Native.Nat.{ℕ, suc, _+_, _-_, _*_, _%_, _<_, _≤_}
 use mathlib.Core.Path.{_≡_, refl, sym, ap, _∙_}
 use mathlib.Core.Bool.{Bool, true, false, not, _&&_}
 use mathlib.Core.List.{List, [], _∷_, _++_}
@@ -14,9 +15,9 @@ use Rattle.text.specs.Text.{all}
 use Rattle.text.specs.Place.{over}
 use Rattle.b64.specs.B64.{sextet, letter, inAlphabet, last, lowBitsZero, canonical, decode, char0, char1, char2, char3, encode, groupOf}
 use Rattle.b64.specs.B64Steps.{completedByte, completedBytes}
-use Rattle.text.proofs.Tests.{both}
 use Rattle.text.proofs.Groups.{Partly, partly-room, partly-step}
 use Rattle.b64.proofs.B64Laws.{mod1, canonical-alphabet}
+use Rattle.text.proofs.Lists.{all-at}
 
 last-at : (t : List ℕ) → last t ≡ getD t (length t - 1) 0
 last-at [] = refl
@@ -54,11 +55,6 @@ module _ (t : List ℕ) where
   canonical-out e = rw (← e)
 
 -- ---- the decoder, character by character
-
-all-at : (f : ℕ → Bool) (t : List ℕ) → all f t ≡ true → (i : ℕ) → i < length t → f (getD t i 0) ≡ true
-all-at f [] e i h = absurd (omega arith)
-all-at f (c ∷ t) e zero h = both (f c) (all f t) e .0
-all-at f (c ∷ t) e (suc i) h = all-at f t (both (f c) (all f t) e .1) i (omega arith)
 
 -- each character of a canonical text has a sextet
 pub sextet-at : (t : List ℕ) → canonical t ≡ true → (i : ℕ) → i < length t → sextet (getD t i 0) < 64

@@ -3,7 +3,7 @@
 use Prim.Native.String.{String}
 use mathlib.Core.Path.{_≡_, refl}
 use mathlib.Core.Bool.{true, false}
-use mathlib.Core.List.{List, [], _∷_, map}
+use mathlib.Core.List.{List, [], _∷_, _++_, map}
 use Rattle.text.specs.Text.{text, all}
 use Rattle.b64.specs.B64.{sextet, letter, lowBitsZero, canonical, decode, encode}
 
@@ -25,3 +25,8 @@ strangers = "A" ∷ "Zh" ∷ "Zm9" ∷ "Zg==" ∷ "Hj5+dsK0Z" ∷ "Hj5+dsK0ZR" �
 pub not-canonical : map (λ s. canonical (text s)) strangers ≡ map (λ s. false) strangers
 unfolding sextet lowBitsZero canonical
 not-canonical = refl
+
+-- and a text with its line feed
+pub line-feed-refused : canonical (text "Zm9v" ++ (10 ∷ [])) ≡ false
+unfolding sextet lowBitsZero canonical
+line-feed-refused = refl

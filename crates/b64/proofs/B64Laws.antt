@@ -146,9 +146,6 @@ length-encode (x ∷ []) = refl
 length-encode (x ∷ y ∷ []) = refl
 length-encode (x ∷ y ∷ z ∷ b) = omega (arith, length-encode b)
 
-pub bytes-chars : (n : ℕ) → bytesOf (charsOf n) ≡ n
-bytes-chars n = omega arith
-
 -- ---- a canonical text is the encoding of what it decodes to
 
 -- the letter of a number that is the sextet of c

@@ -1,4 +1,4 @@
--- The two units of length. Characters of a B64 text and bytes are turned into one another by these functions alone.
+-- Between the two units of length: characters of a B64 text and bytes are turned into one another by these functions alone.
 -- Assumes nothing.
 use Prim.Native.Nat.{ℕ, _+_, _-_, _*_, _/_, _%_, _^_, min}
 

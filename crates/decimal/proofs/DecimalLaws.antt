@@ -7,17 +7,13 @@ use mathlib.Core.Logic.{_⊎_, inl, inr, ⊎-elim}
 use mathlib.Core.List.{List, [], _∷_, _++_, append-nil, append-assoc}
 use native.Mathlib.Omega.{arith}
 use native.Mathlib.Nat.{pow-suc}
-use native.Mathlib.Decide.{decLt}
 use lib.Dec.{eqb}
 use lib.ListN.{length, length-append}
 use borrow.Author.Tests.{lt-ltb, le-ltb, ne-eqb, eqb-true, eqb-false}
 use Rattle.text.specs.Text.{all}
 use Rattle.decimal.specs.Decimal.{isDigit, isUnsigned, valueFrom, value, digitsWithin, digits}
-use Rattle.text.proofs.Tests.{both, either, from-within, to-within}
+use Rattle.text.proofs.Tests.{both, either, from-within, to-within, below?}
 use Rattle.text.proofs.Lists.{empty-nil, all-append}
-
-below? : (n m : ℕ) → (n < m) ⊎ (m ≤ n)
-below? n m = elim (decLt n m) [ yes h ↦ inl h | no h ↦ inr (omega arith) ]
 
 -- ---- the digits of a number below 10, and the last digit of any other
 

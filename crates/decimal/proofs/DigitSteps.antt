@@ -1,6 +1,6 @@
 -- The steps of the walks over digits: reading them from the first on, writing them from the last on.
 -- Assumes nothing.
-use Prim.Native.Nat.{ℕ, suc, _+_, _-_, _*_, _/_, _%_, _≤_, _<_}
+use Prim.Native.Nat.{ℕ, _+_, _-_, _*_, _/_, _%_, _≤_, _<_}
 use mathlib.Core.Path.{_≡_, refl, sym, _∙_}
 use mathlib.Core.Bool.{false}
 use mathlib.Core.List.{List, [], _∷_, _++_, append-assoc}
@@ -8,13 +8,14 @@ use native.Mathlib.Omega.{arith}
 use native.Mathlib.Numerals.{add-one}
 use lib.Dec.{eqb}
 use lib.ListN.{length, drop, getD, set, drop-of-length-le}
-use lib.Seq.{drop-cons, getD-set-same, drop-set-lt, lt-length-set}
+use lib.Seq.{drop-cons}
 use borrow.Author.Tests.{le-leb, lt-leb, ne-eqb}
 use Rattle.text.specs.Text.{all}
 use Rattle.decimal.specs.Decimal.{isDigit, isUnsigned, valueFrom, digits}
 use Rattle.decimal.specs.DecimalSteps.{upTo}
 use Rattle.decimal.specs.declared.reader.Limited.the-variants.{Outside, Value}
 use Rattle.decimal.proofs.DecimalLaws.{digits-small, digits-step, length-small, length-step, length-pos}
+use Rattle.text.proofs.Lists.{drop-set-same}
 
 -- ---- an unsigned decimal, by its first byte
 
@@ -63,12 +64,6 @@ unfolding upTo
 is-value limit n v h e = rw (← e, le-leb n limit h)
 
 -- ---- the text, digit by digit
-
--- what stands from i on after a store at i
-drop-set-same : (l : List ℕ) (i v : ℕ) → i < length l → drop i (set l i v) ≡ v ∷ drop (i + 1) l
-drop-set-same l i v h =
-    let k : i < length (set l i v) = lt-length-set l i v h in
-    rw (drop-cons (set l i v) i 0 k, getD-set-same l i v 0 h, drop-set-lt (suc i) l i v (omega arith), add-one)
 
 -- a digit is put before those that stand already
 pub put-digit : (buf : List ℕ) (i rest : ℕ) → 10 ≤ rest → i + 1 ≡ length (digits rest) → i < length buf

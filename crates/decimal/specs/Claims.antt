@@ -16,7 +16,7 @@ pub record DecimalClaims : Type 0 where
   -- over any range: a number of it is read from its text, and from no other
   pub numeral-text : (low high z : ℤ) → inRange low high z ≡ true → numeral low high (decimalText z) ≡ number z
   pub text-numeral : (low high : ℤ) (s : List ℕ) (z : ℤ) → numeral low high s ≡ number z → (s ≡ decimalText z) × (inRange low high z ≡ true)
-  -- and so for the numerals of the profiles
+  -- and so over a range of natural numbers
   pub limited-digits : (low high n : ℕ) → low ≤ n → n ≤ high → limitedReading low high (digits n) ≡ Value n
   pub digits-limited : (low high : ℕ) (s : List ℕ) (n : ℕ) → limitedReading low high s ≡ Value n → (s ≡ digits n) × (low ≤ n) × (n ≤ high)
   -- where the number is 0, the text is that of the value

@@ -1,15 +1,15 @@
 -- The steps of the walk, one after the other: what each leaf finds makes up what the whole finds.
 -- Assumes nothing.
 use Prim.Native.Nat.{ℕ, suc, _+_, _-_, _*_, _/_, _≤_, _<_}
-use mathlib.Core.Path.{_≡_, refl, ap, _∙_}
+use mathlib.Core.Path.{_≡_, refl}
 use mathlib.Core.Bool.{true, false}
 use mathlib.Core.List.{List, [], _∷_}
 use mathlib.Core.Option.{Option, none, some}
 use native.Mathlib.Omega.{arith}
-use lib.ListN.{length, take, drop, getD, length-drop}
+use lib.ListN.{length, take, drop, getD}
 use lib.Seq.{drop-drop}
 use borrow.Author.Tests.{le-leb, lt-leb, ne-eqb}
-use Rattle.text.specs.Text.{text, find, nextAt, startsWith}
+use Rattle.text.specs.Text.{text, find, nextAt, startsWith, andThen}
 use Rattle.profile.specs.Limits.{Profile, limitsOf, inRange, idOf, profileOf}
 use Rattle.profile.specs.declared.limits.NumberRule.{NumberRule}
 use Rattle.profile.specs.declared.limits.BytesRule.{BytesRule}
@@ -17,14 +17,8 @@ use Rattle.profile.specs.declared.limits.Limits.{Limits}
 use Rattle.profile.specs.declared.fields.Version.{Version}
 use Rattle.profile.specs.declared.fields.Version.the-variants.{Absent, Number}
 use Rattle.profile.specs.declared.fields.Fields.{Fields}
-use Rattle.fast_path.specs.Walk.{andThen, Taken, taken, numeralIn, isWritten, writtenNumber, leftOut, numberIn, writtenBytes, bytesIn, allowed, versionIn, numbersIn, headIn, withStrings, afterId, walked}
-use Rattle.text.proofs.Scanning.{find-le}
-
--- what stands after a separator and a name
-rest-at : (s name : List ℕ) (at : ℕ) → drop (suc (length name)) (drop at s) ≡ drop (at + 1 + length name) s
-rest-at s name at =
-    let e : at + suc (length name) ≡ at + 1 + length name = omega arith in
-    drop-drop (suc (length name)) at s ∙ ap (λ (k : ℕ). drop k s) e
+use Rattle.fast_path.specs.Walk.{Taken, taken, numeralIn, isWritten, writtenNumber, leftOut, numberIn, writtenBytes, bytesIn, allowed, versionIn, numbersIn, headIn, withStrings, afterId, walked}
+use Rattle.text.proofs.Prefixes.{rest-at}
 
 -- ---- a number
 
@@ -138,9 +132,6 @@ pub walked-other : (e : List Profile) (s : List ℕ) → (length s ≡ 0 → ⊥
 unfolding walked
 walked-other e [] h n = refl
 walked-other e (c ∷ s) h n = rw (ne-eqb c 36 n)
-
-pub next-inside : (d : ℕ) (s : List ℕ) → (length s ≡ 0 → ⊥) → nextAt d s 1 ≤ length s
-next-inside d s h = omega (arith, find-le d (drop 1 s), length-drop 1 s)
 
 pub walked-id : (e : List Profile) (s : List ℕ) (end : ℕ) → (length s ≡ 0 → ⊥) → getD s 0 0 ≡ 36 → end ≡ nextAt 36 s 1
     → walked e s ≡ afterId e (idOf e (take (end - 1) (drop 1 s))) (drop end s)

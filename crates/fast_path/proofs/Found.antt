@@ -23,7 +23,8 @@ use Rattle.profile.proofs.Table.{Entry, entry-at, name-of}
 use Rattle.fast_path.specs.Walk.{Taken, versionIn, numbersIn, Pair, pairIn, keysIn, hashesIn, headIn, afterId, walked}
 use Rattle.text.proofs.Starts.{starts-is}
 use Rattle.fast_path.proofs.ItemTexts.{items, Stands, stands-append, costItems, keyItems, fiveItems, hashesText, restText, pieces-row}
-use Rattle.fast_path.proofs.Stands.{Holds, holds-then, holds-map, holds-if, number-then, bytes-then, VersionStands, version-stands}
+use Rattle.fast_path.proofs.Stands.{number-then, bytes-then, VersionStands, version-stands}
+use Rattle.text.proofs.Options.{Holds, holds-then, holds-map, holds-if}
 use Rattle.text.proofs.Lists.{empty-nil}
 
 -- ---- the numbers, and the byte strings two by two

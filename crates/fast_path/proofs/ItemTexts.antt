@@ -1,19 +1,19 @@
 -- Named texts one after the other, each behind its separator, as the walk meets them; and the writer's string as such a row.
 -- Assumes nothing.
 use Prim.Native.Nat.{ℕ}
-use mathlib.Core.Bool.{Bool, true, false, not, _&&_, and-false, or-true, false≢true}
+use mathlib.Core.Bool.{Bool, true, false, _&&_, and-false, or-true}
 use mathlib.Core.List.{List, [], _∷_, _++_, append-nil, append-assoc}
 use mathlib.Core.Option.{none, some}
 use mathlib.Core.Path.{_≡_, refl, _∙_, ap}
 use lib.Dec.{eqb}
 use Rattle.text.specs.Text.{text, all, has, startsWith}
 use Rattle.grammar.specs.Pieces.{Slot}
-use Rattle.text.proofs.Tests.{both, is-false}
+use Rattle.text.proofs.Tests.{both}
 use Rattle.profile.specs.Fields.{FieldSet, writeNumber, writeBytes, writeVersion}
 use Rattle.profile.specs.PieceTexts.{tagged, itemsText, dollared, piecesText}
 use Rattle.profile.specs.declared.fields.Fields.{Fields}
 use Rattle.profile.specs.declared.limits.Limits.{Limits}
-use Rattle.text.proofs.Starts.{starts-without, Begins}
+use Rattle.text.proofs.Starts.{starts-without, Begins, differ, starts-differ}
 use Rattle.fast_path.proofs.Closed.{Separator, Closed}
 
 -- a name with its equals sign, and the text that stands behind it
@@ -97,17 +97,6 @@ separator-after separator (some t) h = λ f p q. q
 pub separators-separator : (separator : ℕ) (l : List Named) → Separator separator → Separator (separators separator l)
 separators-separator separator [] h = h
 separators-separator separator (i ∷ l) h = separators-separator (separatorAfter separator (i .1)) l (separator-after separator (i .1) h)
-
--- two names differ in the first byte
-abbrev pub differ : List ℕ → List ℕ → Bool
-differ [] b = false
-differ (c ∷ a) [] = false
-differ (c ∷ a) (d ∷ b) = not (eqb d c)
-
-starts-differ : (a b t : List ℕ) → differ a b ≡ true → startsWith a (b ++ t) ≡ false
-starts-differ [] b t e = absurd (false≢true e)
-starts-differ (c ∷ a) [] t e = absurd (false≢true e)
-starts-differ (c ∷ a) (d ∷ b) t e = rw (is-false (eqb d c) e)
 
 -- a name with its equals sign that none of the items has
 abbrev pub fresh : List ℕ → List Named → Bool

@@ -7,30 +7,19 @@ use mathlib.Core.List.{List, [], _∷_, _++_}
 use native.Mathlib.Omega.{arith}
 use native.Mathlib.Decide.{decLt}
 use lib.Dec.{eqb}
-use lib.ListN.{length, drop, getD, set, length-drop, List·getD-eq-default}
+use lib.ListN.{length, drop, getD, length-drop, List·getD-eq-default}
 use borrow.Author.Tests.{lt-ltb, le-ltb, eq-eqb}
 use Rattle.text.specs.Text.{within}
 use Rattle.text.specs.Place.{over}
 use Rattle.b64.specs.B64.{sextet, inAlphabet, canonical, decode, groupOf}
 use Rattle.text.proofs.Tests.{from-within}
-use Rattle.text.proofs.Over.{over-nil, over-put, over-over, length-over}
+use Rattle.text.proofs.Over.{over-nil, over-over, length-over}
 use Rattle.b64.proofs.B64Laws.{grouped, pair, triple, canonical-grouped, length-decode}
 use Rattle.b64.proofs.B64Code.{group-past, group-bits}
 use Rattle.fast_path.specs.WalkSteps.{three, two, one, textAt, bytesAt, Reached, Stopped, Ran, RunIs}
 use Rattle.fast_path.specs.declared.run.Run.{Run}
 use Rattle.fast_path.specs.declared.run.Run.the-variants.{No, To}
 use Rattle.text.proofs.Runs.{run-go, run-stop, run-length}
-
--- ---- stores, one after the other
-
-pub put-one-is : (d : List ℕ) (o x : ℕ) → o + 1 ≤ length d → set d o x ≡ over d o (x ∷ [])
-put-one-is d o x h = rw (over-nil d o) at (over-put d o o [] x (omega arith) (omega arith))
-
-pub put-two-is : (d : List ℕ) (o x y : ℕ) → o + 2 ≤ length d → set (set d o x) (o + 1) y ≡ over d o (x ∷ y ∷ [])
-put-two-is d o x y h = rw (put-one-is d o x (omega arith)) (over-put d o (o + 1) (x ∷ []) y refl (omega arith))
-
-pub put-three-is : (d : List ℕ) (o x y z : ℕ) → o + 3 ≤ length d → set (set (set d o x) (o + 1) y) (o + 2) z ≡ over d o (x ∷ y ∷ z ∷ [])
-put-three-is d o x y z h = rw (put-two-is d o x y (omega arith)) (over-put d o (o + 2) (x ∷ y ∷ []) z refl (omega arith))
 
 -- ---- sextets
 

@@ -1,15 +1,15 @@
--- What the walk takes stands there: each text that is found is the one that the writer puts for it, and the rest stands behind it.
+-- What the walk takes stands there: each text that is found is the one that the writer puts for it, and the rest stands starts-behind it.
 -- Assumes nothing.
 use Prim.Native.Nat.{ℕ, suc}
-use mathlib.Core.Bool.{Bool, true, false, not, cond, _&&_, false≢true}
-use mathlib.Core.List.{List, [], _∷_, _++_, append-assoc}
-use mathlib.Core.Option.{Option, none, some}
+use mathlib.Core.Bool.{true, false, not, _&&_, false≢true}
+use mathlib.Core.List.{List, [], _∷_, _++_}
+use mathlib.Core.Option.{Option, some}
 use mathlib.Core.Path.{_≡_, refl, sym, _∙_, ap}
 use native.Mathlib.Omega.{arith}
 use lib.Dec.{leb, eqb}
 use lib.ListN.{length, drop}
 use borrow.Author.Tests.{eq-eqb}
-use Rattle.text.specs.Text.{text, within, all, empty, isByte, run, startsWith}
+use Rattle.text.specs.Text.{text, within, all, empty, isByte, run, startsWith, andThen}
 use Rattle.decimal.specs.Decimal.{isDigit, isUnsigned, value, digits}
 use Rattle.b64.specs.B64.{inAlphabet, canonical, decode, encode}
 use Rattle.text.proofs.Tests.{both, is-false, to-within}
@@ -25,29 +25,11 @@ use Rattle.profile.specs.declared.limits.NumberRule.the-variants.{Needed, Omitt
 use Rattle.profile.specs.declared.limits.BytesRule.{BytesRule}
 use Rattle.profile.specs.declared.fields.Version.{Version}
 use Rattle.profile.specs.declared.fields.Version.the-variants.{Absent, Number}
-use Rattle.fast_path.specs.Walk.{andThen, Taken, numeralIn, isWritten, writtenNumber, leftOut, numberIn, bytesIn, allowed, versionIn}
+use Rattle.fast_path.specs.Walk.{Taken, numeralIn, isWritten, writtenNumber, leftOut, numberIn, bytesIn, allowed, versionIn}
 use Rattle.text.proofs.Runs.{run-is}
-use Rattle.text.proofs.Starts.{starts-is}
+use Rattle.text.proofs.Starts.{starts-behind}
 use Rattle.fast_path.proofs.ItemTexts.{Stands}
-
--- ---- a fact of what is found, where something is
-
-abbrev pub Holds : {A : Type 0} → (A → Type 0) → Option A → Type 0
-Holds P none = Unit {0}
-Holds P (some x) = P x
-
-pub holds-then : {A B : Type 0} (P : A → Type 0) (Q : B → Type 0) (o : Option A) (f : A → Option B)
-    → Holds P o → ((x : A) → P x → Holds Q (f x)) → Holds Q (andThen o f)
-holds-then P Q none f h k = tt
-holds-then P Q (some x) f h k = k x h
-
-pub holds-map : {A : Type 0} (P Q : A → Type 0) (o : Option A) → Holds P o → ((x : A) → P x → Q x) → Holds Q o
-holds-map P Q none h k = tt
-holds-map P Q (some x) h k = k x h
-
-pub holds-if : {A : Type 0} (P : A → Type 0) (b : Bool) (o u : Option A) → (b ≡ true → Holds P o) → (b ≡ false → Holds P u) → Holds P (cond b o u)
-holds-if P true o u h k = h refl
-holds-if P false o u h k = k refl
+use Rattle.text.proofs.Options.{Holds, holds-then, holds-if}
 
 -- ---- one number
 
@@ -58,10 +40,6 @@ numeral-stands t =
     holds-if _ (isUnsigned d && leb (value d) largest32) _ _
     (λ h. run-is isDigit t ∙ ap (λ (l : List ℕ). l ++ drop (length d) t) (sym (digits-value d (both (isUnsigned d) (leb (value d) largest32) h .0))))
     (λ h. tt)
-
--- behind a text that begins with l
-behind : (l t u rest : List ℕ) → startsWith l t ≡ true → drop (length l) t ≡ u ++ rest → t ≡ (l ++ u) ++ rest
-behind l t u rest e h = starts-is l t e ∙ ap (λ (x : List ℕ). l ++ x) h ∙ sym (append-assoc l u rest)
 
 written-slot : (r : NumberRule) (n : ℕ) → isWritten r n ≡ true → writeNumber r n ≡ some (digits n)
 written-slot (Needed low high) n e = refl
@@ -87,7 +65,7 @@ number-stands r k name separator t =
     holds-if _ (inRange r (y .0) && isWritten r (y .0)) _ _
     (λ e. let q = both (inRange r (y .0)) (isWritten r (y .0)) e in
     let w = written-slot r (y .0) (q .1) in
-    (q .0, record { here = rw w (behind (separator ∷ name) t (digits (y .0)) (y .1) s h); after = rw w }))
+    (q .0, record { here = rw w (starts-behind (separator ∷ name) t (digits (y .0)) (y .1) s h); after = rw w }))
     (λ e. tt)))
     (λ s. left-stands r k name separator t)
 
@@ -124,7 +102,7 @@ bytes-stand r name separator t =
     record {
       permitted = rw (n, q .1);
       bytes = bytes-decode u (p .0);
-      stands = record { here = rw w (behind (separator ∷ name) t (encode bs) (drop (length u) v) s h); after = rw w };
+      stands = record { here = rw w (starts-behind (separator ∷ name) t (encode bs) (drop (length u) v) s h); after = rw w };
       nothing = rw (n, s);
     })
     (λ e. tt))
@@ -145,5 +123,5 @@ version-stands r t =
     let u = drop 3 t in
     holds-if _ (startsWith (text "$v=") t) _ _
     (λ s. holds-then (λ (y : ℕ × List ℕ). u ≡ digits (y .0) ++ y .1) _ (numeralIn u) (λ (y : ℕ × List ℕ). allowed r (Number (y .0)) (y .1)) (numeral-stands u) (λ y h.
-    holds-if _ (versionAllowed r (Number (y .0))) _ _ (λ e. (e, behind (text "$v=") t (digits (y .0)) (y .1) s h)) (λ e. tt)))
+    holds-if _ (versionAllowed r (Number (y .0))) _ _ (λ e. (e, starts-behind (text "$v=") t (digits (y .0)) (y .1) s h)) (λ e. tt)))
     (λ s. holds-if _ (versionAllowed r Absent) _ _ (λ e. (e, refl)) (λ e. tt))

@@ -14,7 +14,7 @@ use Rattle.text.specs.Text.{empty, startsWith}
 use Rattle.b64.specs.B64.{inAlphabet, canonical}
 use Rattle.text.specs.Place.{over}
 use Rattle.text.proofs.Tests.{from-within}
-use Rattle.text.proofs.Over.{over-nil, over-over, length-over}
+use Rattle.text.proofs.Over.{over-nil, length-over, over-after}
 use Rattle.profile.specs.Limits.{isSize, limitsOf, profileOf, editionTwo}
 use Rattle.profile.specs.Fields.{FieldSet, fieldSet}
 use Rattle.profile.specs.declared.limits.BytesRule.{BytesRule}
@@ -105,11 +105,6 @@ bytes-none r name separator s at out from h e =
 
 -- ---- two byte strings
 
--- one put after the other
-over-two : (out₀ out₁ out₂ : List ℕ) (from middle : ℕ) (a b : List ℕ) → from ≤ length out₀ → out₁ ≡ over out₀ from a → middle ≡ from + length a
-    → out₂ ≡ over out₁ middle b → out₂ ≡ over out₀ from (a ++ b)
-over-two out₀ out₁ out₂ from middle a b h p q w = w ∙ rw (p, q) (over-over out₀ from a b h)
-
 module _ (a : BytesRule) (a-name : List ℕ) (b : BytesRule) (b-name : List ℕ) (pieces : Bool) (separator : ℕ) (s : List ℕ) (at : ℕ) (out₀ : List ℕ) (from : ℕ) where
   pub no-first : bytesIn a a-name separator (drop at s) ≡ none → pairIn a a-name b b-name pieces separator (drop at s) ≡ none
   unfolding pairIn
@@ -132,7 +127,7 @@ module _ (a : BytesRule) (a-name : List ℕ) (b : BytesRule) (b-name : List ℕ)
           small = omega (arith, x .small, y .small);
           middle-is = x .end-is;
           end-is = y .end-is;
-          stored = over-two out₀ out₁ out₂ from middle (x .bytes) (y .bytes) h (x .stored) (x .end-is) (y .stored);
+          stored = over-after out₀ out₁ out₂ from middle (x .bytes) (y .bytes) h (x .stored) (x .end-is) (y .stored);
         }
 
 -- ---- all four
@@ -179,7 +174,7 @@ module _ (l : Limits) (f : Fields) (separator : ℕ) (s : List ℕ) (at : ℕ) (
                   y .small,
                 );
             stored =
-                over-two out₀ out₁ out₂ 0 d (x .pair .first ++ x .pair .second) (y .pair .first ++ y .pair .second) (omega arith) (x .stored)
+                over-after out₀ out₁ out₂ 0 d (x .pair .first ++ x .pair .second) (y .pair .first ++ y .pair .second) (omega arith) (x .stored)
                 (omega (arith, x .middle-is, x .end-is)) (y .stored)
                 ∙ ap (over out₀ 0) (append-assoc (x .pair .first) (x .pair .second) (y .pair .first ++ y .pair .second));
           }

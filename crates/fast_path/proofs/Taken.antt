@@ -2,16 +2,16 @@
 -- Assumes nothing.
 use Prim.Native.Nat.{ℕ, _≤_}
 use mathlib.Core.Bool.{Bool, true, false, cond}
-use mathlib.Core.List.{List, [], _∷_, _++_, append-assoc}
+use mathlib.Core.List.{List, [], _∷_, _++_}
 use mathlib.Core.Logic.{⊎-elim}
-use mathlib.Core.Option.{Option, none, some}
+use mathlib.Core.Option.{none, some}
 use mathlib.Core.Path.{_≡_, refl, _∙_}
 use native.Mathlib.Omega.{arith}
 use lib.Dec.{leb, eqb}
-use lib.ListN.{length, drop}
+use lib.ListN.{length}
 use lib.Seq.{drop-at}
 use borrow.Author.Tests.{eqb-true, leb-true, le-leb}
-use Rattle.text.specs.Text.{text, within, all, empty, isByte, run, startsWith}
+use Rattle.text.specs.Text.{text, within, all, empty, isByte, run, startsWith, andThen}
 use Rattle.decimal.specs.Decimal.{isDigit, isUnsigned, digits}
 use Rattle.b64.specs.B64.{sextet, inAlphabet, encode}
 use Rattle.grammar.specs.Limits.{largestVersion}
@@ -29,16 +29,11 @@ use Rattle.profile.specs.declared.limits.NumberRule.the-variants.{Needed, Omitt
 use Rattle.profile.specs.declared.limits.BytesRule.{BytesRule}
 use Rattle.profile.specs.declared.fields.Version.{Version}
 use Rattle.profile.specs.declared.fields.Version.the-variants.{Absent, Number}
-use Rattle.fast_path.specs.Walk.{andThen, taken, numeralIn, isWritten, writtenNumber, leftOut, numberIn, writtenBytes, bytesIn, allowed, versionIn}
+use Rattle.fast_path.specs.Walk.{taken, numeralIn, isWritten, writtenNumber, leftOut, numberIn, writtenBytes, bytesIn, allowed, versionIn}
 use Rattle.text.proofs.Runs.{run-on}
-use Rattle.text.proofs.Starts.{starts-own}
+use Rattle.text.proofs.Starts.{behind-tag}
 use Rattle.fast_path.proofs.Closed.{Separator, Closed, run-closed}
 use Rattle.fast_path.proofs.ItemTexts.{Named, separatorAfter, items, separator-after, fresh, Behind, closed-items, starts-fresh}
-
--- what stands behind its tag is read there
-behind-tag : {A : Type 0} (tag t rest : List ℕ) (read : List ℕ → Option A) (left : Option A)
-    → cond (startsWith tag ((tag ++ t) ++ rest)) (read (drop (length tag) ((tag ++ t) ++ rest))) left ≡ read (t ++ rest)
-behind-tag tag t rest read left = rw (append-assoc tag t rest, starts-own tag (t ++ rest), drop-at tag (t ++ rest) (length tag) refl)
 
 -- ---- one number
 

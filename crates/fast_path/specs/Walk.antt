@@ -8,7 +8,7 @@ use mathlib.Core.List.{List, [], _∷_}
 use mathlib.Core.Option.{Option, none, some}
 use lib.Dec.{leb, eqb}
 use lib.ListN.{length, take, drop}
-use Rattle.text.specs.Text.{text, empty, find, run, startsWith}
+use Rattle.text.specs.Text.{text, empty, find, run, startsWith, andThen}
 use Rattle.decimal.specs.Decimal.{isDigit, isUnsigned, value}
 use Rattle.b64.specs.B64.{inAlphabet, canonical, decode}
 use Rattle.profile.specs.Limits.{Profile, limitsOf, inRange, isSize, versionAllowed, idOf, profileOf, largest32}
@@ -21,10 +21,6 @@ use Rattle.profile.specs.declared.limits.Limits.{Limits}
 use Rattle.profile.specs.declared.fields.Version.{Version}
 use Rattle.profile.specs.declared.fields.Version.the-variants.{Absent, Number}
 use Rattle.profile.specs.declared.fields.Fields.{Fields}
-
-abbrev pub andThen : {A B : Type 0} → Option A → (A → Option B) → Option B
-andThen none f = none
-andThen (some x) f = f x
 
 -- what was taken, the separator that stands before the next item, `$` before the first and a comma before the others, and the text after it
 pub record Taken (A : Type 0) : Type 0 where

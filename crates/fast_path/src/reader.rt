@@ -18,7 +18,7 @@ ghost use Rattle.fast_path.specs.Contents.{refusedContents, allDecoded, 
 ghost use Rattle.fast_path.specs.Walk.{walked};
 ghost use Rattle.fast_path.specs.WalkSteps.{bufferLength, FoundIn, total, StoredIs};
 
-// The walk with the grammar's own table.
+// The walk with the alphabet's own table.
 fn walk_in(s: &[u8], out: &mut [u8]) -> Walk
     requires { ⌜ bufferLength ≤ length (now out) ⌝ }
     ensures { λ r. ⌜ FoundIn (walked editionTwo (now (s .entry))) (now (out .entry)) (now (out .exit)) r ⌝ }

@@ -1,7 +1,7 @@
 -- A string whose pieces keep their rules has at most 2,896 bytes, and a piece that is there is not empty.
 -- Assumes nothing.
 use Prim.Native.Nat.{ℕ, suc, _≤_, _<_, _+_, _*_}
-use mathlib.Core.Bool.{true, false, not, true≢false, false≢true}
+use mathlib.Core.Bool.{true, false, true≢false, false≢true}
 use mathlib.Core.List.{List, [], _∷_, _++_, map}
 use mathlib.Core.Option.{none, some}
 use mathlib.Core.Path.{_≡_, refl, sym, _∙_, ap}
@@ -9,7 +9,7 @@ use native.Mathlib.Omega.{arith}
 use lib.Dec.{leb, eqb}
 use lib.ListN.{length, length-append}
 use borrow.Author.Tests.{leb-true}
-use Rattle.text.specs.Text.{within, all, empty, split, cut, listOf, broken}
+use Rattle.text.specs.Text.{within, all, split, cut, listOf, broken}
 use Rattle.grammar.specs.Bytes.{inClass, isText}
 use Rattle.b64.specs.B64.{canonical}
 use Rattle.decimal.specs.Decimal.{isDecimal, digits}
@@ -28,7 +28,7 @@ use Rattle.text.proofs.Tests.{both, is-true, from-within}
 use Rattle.text.proofs.Rows.{Clear, clear}
 use Rattle.decimal.proofs.DecimalLaws.{length-digits}
 use Rattle.decimal.proofs.NumeralLaws.{digits-limited}
-use Rattle.text.proofs.Joining.{total, join-length}
+use Rattle.text.proofs.Joining.{total, join-length, total-none}
 use Rattle.grammar.proofs.ItemLaws.{item-name, item-value, join-items}
 use Rattle.grammar.proofs.Reading.{accepted-rows}
 
@@ -102,11 +102,6 @@ unfolding isOutput
 output-short none e = tt
 output-short (some s) e = from-within 1 128 (length s) (both (within 1 128 (length s)) (canonical s) (is-true (isOutput s) e) .0) .1
 
-no-more : (l : List (List ℕ)) → not (empty l) ≡ false → total l ≡ 0
-unfolding total
-no-more [] e = refl
-no-more (x ∷ l) e = absurd (true≢false e)
-
 whole-length : (p : Pieces) → Clear (pieceRows p) → length (string p) ≤ longestString
 whole-length p (a, (b, (c, (d, (e, (f, g)))))) =
     let n = text-length _ 32 (p .id) (is-true (isName (p .id)) a) in
@@ -118,7 +113,7 @@ whole-length p (a, (b, (c, (d, (e, (f, g)))))) =
     let h₂ = add-slot 2591 (p .params) l₂ (params-short (p .params) c) in
     let h₃ = add-slot 128 (p .salt) l₃ (value-short (p .salt) d) in
     let h₄ = add-slot 128 (p .output) l₄ (output-short (p .output) e) in
-    let h₅ = no-more (p .more) f in
+    let h₅ = total-none (p .more) f in
     let h₆ = join-length 36 (p .id) (afterId p) in
     omega arith
 

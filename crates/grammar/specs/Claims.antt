@@ -1,4 +1,4 @@
--- What is proved of the definitions, over every text: proofs/Claims.antt has a value of each record.
+-- What is proved of the definitions, over every text: proofs/Claims.antt has a value of `PieceClaims`.
 -- Assumes nothing.
 use Prim.Native.Nat.{ℕ, _+_, _*_, _-_, _≤_, _<_}
 use mathlib.Core.Path.{_≡_}

@@ -20,7 +20,8 @@ use Rattle.fast_path.proofs.Claims.{fast-path-agrees}
 use Rattle.phc.specs.Records.{wholeLength, recordedWhole}
 use Rattle.phc.specs.Writing.{handed}
 use Rattle.phc.specs.Claims.{PhcClaims}
-use Rattle.phc.proofs.WholeLaws.{number-left, fits-number}
+use Rattle.phc.proofs.WholeLaws.{fits-number}
+use Rattle.text.proofs.Writing.{after-number}
 
 -- no profile permits the version 0
 no-version-0 : (k : ℕ) → versionAllowed (profileOf editionTwo k) (Number 0) ≡ false
@@ -48,7 +49,7 @@ whole-number : (s «record» buffer : List ℕ) → wholeLength ≤ length «rec
 unfolding recordedWhole
 whole-number s «record» buffer h k =
     ap (λ (n : ℕ). putAfter n buffer 0 (joinedBytes (fieldsOf editionTwo s)) .number) (fits-number s «record» buffer h)
-    ∙ number-left (answer editionTwo s) buffer (joinedBytes (fieldsOf editionTwo s)) (λ z. omega (arith, fast-path-agrees .room s z))
+    ∙ after-number (answer editionTwo s) buffer (joinedBytes (fieldsOf editionTwo s)) (λ z. omega (arith, fast-path-agrees .room s z))
     ∙ sym (reading-number editionTwo s)
 
 pub phc-claims : PhcClaims

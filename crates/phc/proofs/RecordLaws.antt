@@ -1,29 +1,16 @@
 -- The record, put at the start of its buffer, alone or with the counts after it.
 -- Assumes nothing.
-use Prim.Native.Nat.{ℕ, _+_, _≤_, _<_}
-use mathlib.Core.List.{List, _++_}
+use Prim.Native.Nat.{ℕ, _≤_, _<_}
+use mathlib.Core.List.{List}
 use mathlib.Core.Path.{_≡_, refl, sym, ap, _∙_}
 use native.Mathlib.Omega.{arith}
 use lib.ListN.{length}
-use Rattle.text.specs.Place.{Outcome, outcome, over, put, putAfter}
-use Rattle.text.proofs.Over.{over-over, length-over}
-use Rattle.text.proofs.Writing.{put-refused, put-clear, put-full, put-done, put-fits}
+use Rattle.text.specs.Place.{Outcome, over, put, putAfter}
+use Rattle.text.proofs.Writing.{put-refused, put-clear, put-full, put-done}
 use Rattle.profile.specs.Limits.{editionTwo}
 use Rattle.profile.specs.Entries.{reading}
 use Rattle.profile.specs.declared.fields.Reading.{Reading}
 use Rattle.phc.specs.Records.{recordBytes, recordLength, recorded}
-
--- ---- a text after another
-
-pub put-text : (d d₁ t b : List ℕ) (at n c : ℕ) → b ≡ t → at + length t ≤ length d → outcome n c d₁ ≡ put d at b → d₁ ≡ over d at t
-put-text d d₁ t b at n c q h e = put-fits d at t n c d₁ h (e ∙ ap (put d at) q) .left-is
-
-pub put-after : (d d₁ d₂ t u b : List ℕ) (at n c : ℕ) → d₁ ≡ over d 0 t → at ≡ length t → b ≡ u → length t + length u ≤ length d
-    → outcome n c d₂ ≡ put d₁ at b → d₂ ≡ over d 0 (t ++ u)
-put-after d d₁ d₂ t u b at n c p k q h e =
-    let l : length d₁ ≡ length d = ap length p ∙ length-over d 0 t (omega arith) in
-    let z : at ≡ 0 + length t = omega arith in
-    put-text d₁ d₂ u b at n c q (omega arith) e ∙ rw (p, z) (over-over d 0 t u (omega arith))
 
 -- ---- the record alone
 

@@ -2,12 +2,12 @@
 -- Assumes nothing.
 use Prim.Native.Nat.{ℕ, _≤_}
 use mathlib.Core.List.{List, [], _∷_}
-use mathlib.Core.Path.{_≡_, sym, ap, _∙_}
+use mathlib.Core.Path.{_≡_}
 use native.Mathlib.Omega.{arith}
 use lib.ListN.{length}
-use Rattle.text.specs.Place.{Outcome, outcome, putAfter}
+use Rattle.text.specs.Place.{outcome}
 use Rattle.b64.proofs.B64Laws.{length-encode}
-use Rattle.text.proofs.Writing.{after-zero, after-done}
+use Rattle.text.proofs.Writing.{after-counted}
 use Rattle.profile.specs.Limits.{editionTwo, room}
 use Rattle.profile.specs.Fields.{FieldSet, chosen, writeBytes}
 use Rattle.profile.specs.Reader.{answer, fieldsOf}
@@ -22,19 +22,12 @@ use Rattle.profile.proofs.Texts.{formatted-length}
 use Rattle.profile.proofs.Lengths.{most-room}
 use Rattle.profile.proofs.Accepted.{accepted}
 
--- what a number of 0 says of a number before it, and of the count
-counted : (n : ℕ) (buffer bytes : List ℕ) (number count : ℕ) (left : List ℕ) → outcome number count left ≡ putAfter n buffer 0 bytes → number ≡ 0
-    → (n ≡ 0) × (count ≡ length bytes)
-counted n buffer bytes number count left e z =
-    let q = after-zero n buffer 0 bytes (sym (ap (λ (o : Outcome). o .number) e) ∙ z) in
-    (q .0, ap (λ (o : Outcome). o .count) (e ∙ after-done n buffer 0 bytes (q .0) (q .1)))
-
 -- ---- written
 
 pub written-small : (f : FieldSet) (buffer : List ℕ) (number count : ℕ) (left : List ℕ) → outcome number count left ≡ writing editionTwo f buffer 0 → number ≡ 0 → count ≤ room
 unfolding writing
 written-small f buffer number count left e z =
-    let q = counted (refusal editionTwo f) buffer (formatted editionTwo f) number count left e z in
+    let q = after-counted (refusal editionTwo f) buffer (formatted editionTwo f) number count left e z in
     omega (arith, q .1, most-room f (kept editionTwo f (q .0)))
 
 -- ---- decoded
@@ -53,5 +46,5 @@ pub decoded-small : (c : ByteString) (s buffer : List ℕ) (number count : ℕ) 
 unfolding decoded
 decoded-small c s buffer number count left e z =
     let f = fieldsOf editionTwo s in
-    let q = counted (answer editionTwo s) buffer (chosen c f) number count left e z in
+    let q = after-counted (answer editionTwo s) buffer (chosen c f) number count left e z in
     omega (arith, q .1, chosen-small f (kept-of editionTwo f (accepted editionTwo edition-two-sound s (q .0) .0)) c)

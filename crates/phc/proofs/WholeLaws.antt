@@ -9,7 +9,7 @@ use lib.Dec.{eqb}
 use lib.ListN.{length}
 use borrow.Author.Tests.{eqb-true, eqb-false, eq-eqb}
 use Rattle.text.specs.Place.{Outcome, over, putAfter}
-use Rattle.text.proofs.Writing.{put-refused, put-clear, put-full, put-done, after-zero, after-done}
+use Rattle.text.proofs.Writing.{put-refused, put-clear, put-full, put-done, after-zero, after-number}
 use Rattle.profile.specs.Limits.{editionTwo}
 use Rattle.profile.specs.Reader.{answer, fieldsOf}
 use Rattle.profile.specs.Entries.{reading}
@@ -17,16 +17,6 @@ use Rattle.fast_path.specs.Contents.{joinedBytes, counted, refusedContents, all
 use Rattle.profile.proofs.ReadLaws.{reading-number}
 use Rattle.fast_path.specs.declared.contents.Contents.{Contents}
 use Rattle.phc.specs.Records.{recordBytes, countBytes, wholeLength, whole, recordedWhole}
-
--- the number, where the bytes fit
-pub number-left : (n : ℕ) (buffer bytes : List ℕ) → (n ≡ 0 → length bytes ≤ length buffer) → putAfter n buffer 0 bytes .number ≡ n
-number-left n buffer bytes h = go (eqb n 0) refl
-  where
-    go : (b : Bool) → eqb n 0 ≡ b → putAfter n buffer 0 bytes .number ≡ n
-    go true t =
-        let z = eqb-true n 0 t in
-        ap (λ (o : Outcome). o .number) (after-done n buffer 0 bytes z (omega (arith, h z))) ∙ sym z
-    go false t = sym (ap (λ (o : Outcome). o .number) (put-refused buffer 0 bytes n n refl (omega (arith, eqb-false n 0 t))))
 
 -- the number of the contents is that of the bytes
 contents-number : (s buffer : List ℕ) → contents editionTwo s buffer 0 .reading .number ≡ allDecoded editionTwo s buffer 0 .number
@@ -76,7 +66,7 @@ module _ (s «record» buffer : List ℕ) where
 
   -- the record fits: the number is the reader's
   pub fits-number : wholeLength ≤ length «record» → fits .number ≡ answer editionTwo s
-  fits-number h = number-left (reading editionTwo s .number) «record» told (λ z. omega arith) ∙ reading-number editionTwo s
+  fits-number h = after-number (reading editionTwo s .number) «record» told (λ z. omega arith) ∙ reading-number editionTwo s
 
   module _ (h : wholeLength ≤ length «record») (c : Contents) (e : c ≡ contents editionTwo s buffer 0) (left : List ℕ) (w : left ≡ allDecoded editionTwo s buffer 0 .buffer) where
     bytes-are : putAfter (fits .number) buffer 0 (joinedBytes (fieldsOf editionTwo s)) ≡ allDecoded editionTwo s buffer 0

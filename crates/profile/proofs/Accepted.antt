@@ -34,17 +34,9 @@ use Rattle.profile.proofs.Slots.{list-slots}
 use Rattle.profile.specs.Sound.{sound}
 use Rattle.profile.proofs.Table.{entry-at, name-of}
 use Rattle.profile.proofs.Written.{Goods, After}
-use Rattle.text.proofs.Lists.{empty-nil}
+use Rattle.text.proofs.Lists.{empty-nil, head-passes}
 
 -- ---- what the sorting tells
-
-head-passes : (f : List ℕ → Bool) (l : List (List ℕ)) → broken f (headIf f l) ≡ false
-head-passes f [] = refl
-head-passes f (x ∷ l) = go (f x) refl
-  where
-    go : (b : Bool) → f x ≡ b → broken f (cond {A = Slot} b (some x) none) ≡ false
-    go true e = not-of-true e
-    go false e = refl
 
 version-begins : (s : List ℕ) → broken isVersionPiece (pieces s .version) ≡ false
 unfolding pieces

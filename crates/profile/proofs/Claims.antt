@@ -6,12 +6,12 @@ use mathlib.Core.List.{List, _++_}
 use mathlib.Core.Path.{_≡_, refl, sym, _∙_, ap, subst}
 use native.Mathlib.Omega.{arith}
 use lib.Dec.{leb}
-use lib.ListN.{length, take, drop, replicate, length-append}
+use lib.ListN.{length, replicate, length-append}
 use borrow.Author.Tests.{leb-true, le-leb, lt-leb}
 use Rattle.text.specs.Place.{Outcome, outcome, over}
 use Rattle.grammar.specs.Pieces.{Pieces, pieces}
 use Rattle.text.proofs.Tests.{from-within, implied}
-use Rattle.text.proofs.Writing.{over-back, after-zero, after-done}
+use Rattle.text.proofs.Writing.{after-zero, after-done, over-same}
 use Rattle.profile.specs.Limits.{Profile, lowest, highest, profileOf, editionTwo, room}
 use Rattle.profile.specs.Fields.{FieldSet, chosen, writeBytes}
 use Rattle.profile.specs.Reader.{answer, fieldsOf}
@@ -83,14 +83,6 @@ entries-agree e ok =
     }
 
 -- ---- demand 3, of the outcomes
-
--- what was written at one place of one buffer tells the bytes
-over-same : (buffer : List ℕ) (at : ℕ) (x y : List ℕ) → at ≤ length buffer
-    → outcome 0 (length x) (over buffer at x) ≡ outcome 0 (length y) (over buffer at y) → x ≡ y
-over-same buffer at x y h q =
-    let c : length x ≡ length y = ap (λ (o : Outcome). o .count) q in
-    let b : over buffer at x ≡ over buffer at y = ap (λ (o : Outcome). o .buffer) q in
-    sym (over-back buffer x at h) ∙ (λ i. take (c i) (drop at (b i))) ∙ over-back buffer y at h
 
 module _ (e : List Profile) (s u : List ℕ) (a : answer e s ≡ 0) (b : answer e u ≡ 0) (h : CarrySame e s u) where
   -- each byte string, decoded into a buffer with room for both

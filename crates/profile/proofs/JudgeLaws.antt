@@ -1,16 +1,16 @@
 -- Rows 8 to 15 over limits, as the code has them: what the tests decide, one after the other.
 -- Assumes nothing.
 use Prim.Native.Nat.{ℕ, _*_, _/_, _<_, _≤_}
-use mathlib.Core.Bool.{Bool, true, false, cond, _||_}
+use mathlib.Core.Bool.{Bool, true, false}
 use mathlib.Core.Path.{_≡_, refl, sym, _∙_, ap}
-use mathlib.Core.List.{List, [], _∷_, _++_}
+use mathlib.Core.List.{List, _++_}
 use native.Mathlib.Omega.{arith}
 use borrow.Author.Tests.{ltb-true, ltb-false, lt-ltb, le-ltb}
 use lib.Dec.{ltb}
 use Rattle.grammar.specs.Pieces.{Slot}
 use Rattle.text.specs.Rows.{Row, firstOf}
-use Rattle.text.proofs.Tests.{neither}
-use Rattle.text.proofs.Rows.{Clear, positive, clear}
+use Rattle.text.proofs.Tests.{three-false}
+use Rattle.text.proofs.Rows.{rows-stop}
 use Rattle.profile.specs.Fields.{misplacedNumber, misplacedBytes}
 use Rattle.profile.specs.Reader.{slotAt, misplaced}
 use Rattle.profile.specs.ReaderSteps.{NumbersAre, Judged}
@@ -18,13 +18,6 @@ use Rattle.profile.specs.declared.judge.Judgement.{Judgement}
 use Rattle.profile.specs.declared.limits.Limits.{Limits}
 
 -- ---- row 10
-
-three-false : (a b c d e : Bool) → (a || b || c || d || e) ≡ false → (a ≡ false) × (b ≡ false) × (c ≡ false)
-three-false a b c d e h =
-    let l = neither (a || b || c) d (neither (a || b || c || d) e h .0) .0 in
-    let k = neither (a || b) c l in
-    let n = neither a b (k .0) in
-    (n .0, n .1, k .1)
 
 -- no number is misplaced
 pub placed : (r : Limits) (vs : List Slot) → misplaced r vs ≡ false
@@ -47,25 +40,6 @@ lanes m p = go (ltb (m / 8) p) refl
     go : (b : Bool) → ltb (m / 8) p ≡ b → b ≡ ltb m (8 * p)
     go true h = let l : m / 8 < p = ltb-true (m / 8) p h in sym (lt-ltb m (8 * p) (omega arith))
     go false h = let l : p ≤ m / 8 = ltb-false (m / 8) p h in sym (le-ltb m (8 * p) (omega arith))
-
--- ---- rows before others
-
--- one of them applies
-pub rows-stop : (rs ts : List Row) (n : ℕ) → n ≡ firstOf rs → (n ≡ 0 → ⊥) → firstOf (rs ++ ts) ≡ n
-rows-stop [] ts n e z = absurd (z e)
-rows-stop (r ∷ rs) ts n e z = go (r .applies) (λ (h : n ≡ firstOf rs). rows-stop rs ts n h z) e
-  where
-    go : (b : Bool) → (n ≡ firstOf rs → firstOf (rs ++ ts) ≡ n) → n ≡ cond b (r .number) (firstOf rs) → cond b (r .number) (firstOf (rs ++ ts)) ≡ n
-    go true f h = sym h
-    go false f h = f h
-
--- none does
-pub rows-pass : (rs ts : List Row) → Clear rs → firstOf (rs ++ ts) ≡ firstOf ts
-rows-pass [] ts c = refl
-rows-pass (r ∷ rs) ts c = rw (c .0) (rows-pass rs ts (c .1))
-
-pub rows-next : (rs ts : List Row) (n : ℕ) → positive rs ≡ true → n ≡ firstOf rs → n ≡ 0 → firstOf (rs ++ ts) ≡ firstOf ts
-rows-next rs ts n t e z = rows-pass rs ts (clear rs t (sym e ∙ z))
 
 -- ---- the judgement
 

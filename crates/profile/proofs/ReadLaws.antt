@@ -24,7 +24,7 @@ use Rattle.grammar.specs.declared.places.Span.{Span}
 use Rattle.grammar.specs.declared.places.Places.{Places}
 use Rattle.text.proofs.Tests.{both, is-true}
 use Rattle.text.proofs.Writing.{put-refused}
-use Rattle.text.proofs.Rows.{Clear, clear}
+use Rattle.text.proofs.Rows.{Clear, clear, rows-stop, rows-pass}
 use Rattle.grammar.proofs.Reading.{accepted-rows, accepted-starts, slot-absent, slot-present, piece-part}
 use Rattle.profile.specs.declared.limits.BytesRule.{BytesRule}
 use Rattle.profile.specs.declared.fields.Version.{Version}
@@ -40,7 +40,6 @@ use Rattle.profile.specs.Reader.{names, slots, strangers, slotAt, rowsFo
 use Rattle.profile.specs.Entries.{refusedReading, kindOf, reading, decoded}
 use Rattle.profile.specs.ReaderSteps.{slotIn, slotsIn, ValuesAre, Judged, chosenText, WholeIs}
 use Rattle.profile.proofs.Accepted.{params-all}
-use Rattle.profile.proofs.JudgeLaws.{rows-stop, rows-pass}
 use Rattle.profile.proofs.SlotLaws.{slot-none, slot-some}
 
 pub answer-rows : (e : List Profile) (s : List ℕ) → grammarNumber s ≡ 0 → answer e s ≡ firstOf (profileRows e (pieces s))

@@ -1,15 +1,15 @@
 -- The walk over the items of a parameter piece: where the next item and its value stand, a step of the walk, and five of them.
 -- Assumes nothing.
-use Prim.Native.Nat.{ℕ, zero, suc, _+_, _-_, _≤_, _<_}
+use Prim.Native.Nat.{ℕ, _+_, _-_, _≤_, _<_}
 use mathlib.Core.Path.{_≡_, refl, sym, ap, ap₂, _∙_}
 use mathlib.Core.List.{List, [], _∷_, map}
 use mathlib.Core.Option.{some}
 use mathlib.Core.Bool.{Bool, true, false, not, cond}
 use native.Mathlib.Omega.{arith}
 use borrow.Author.Tests.{le-leb}
-use lib.Dec.{leb, eqb}
+use lib.Dec.{leb}
 use lib.ListN.{length, take, drop, length-drop}
-use lib.Seq.{length-take-le, take-take, take-add, drop-at, drop-drop}
+use lib.Seq.{length-take-le, take-take, drop-drop}
 use Rattle.text.specs.Text.{text, all, same, empty, find, cut, within, tailIf, partsFrom}
 use Rattle.grammar.specs.Bytes.{isValueByte, isText}
 use Rattle.grammar.specs.Pieces.{Slot}
@@ -19,7 +19,7 @@ use Rattle.grammar.specs.Layout.{span}
 use Rattle.grammar.specs.Parts.{partAt}
 use Rattle.grammar.specs.declared.places.Span.{Span}
 use Rattle.text.proofs.Tests.{both, from-within}
-use Rattle.text.proofs.Scanning.{find-from-le}
+use Rattle.text.proofs.Scanning.{find-from-le, find-take}
 use Rattle.text.proofs.Splitting.{from-past, some-from, cut-before, cut-after}
 use Rattle.grammar.proofs.Spans.{part-inside}
 use Rattle.grammar.proofs.ItemLaws.{items-start, items-to, item-value}
@@ -27,20 +27,7 @@ use Rattle.profile.specs.Reader.{names, named, slots, strangers}
 use Rattle.profile.specs.ReaderSteps.{slotIn, itemsFrom, ValueStep, slotsIn, ValuesAre}
 use Rattle.profile.specs.declared.values.Values.{Values}
 use Rattle.profile.proofs.SlotLaws.{slot-some}
-
--- the first d of a list's beginning, where there is one, is the first of the list
-find-take : (d n : ℕ) (s : List ℕ) → find d (take n s) < length (take n s) → find d s ≡ find d (take n s)
-find-take d zero s h = absurd (omega arith)
-find-take d (suc n) [] h = absurd (omega arith)
-find-take d (suc n) (c ∷ s) h = go (eqb c d) (find-take d n s) h
-  where
-    go : (b : Bool) → (find d (take n s) < length (take n s) → find d s ≡ find d (take n s))
-        → cond b 0 (suc (find d (take n s))) < suc (length (take n s)) → cond b 0 (suc (find d s)) ≡ cond b 0 (suc (find d (take n s)))
-    go true q k = refl
-    go false q k = ap suc (q (omega arith))
-
-drop-take : (m k : ℕ) (s : List ℕ) → m ≤ length s → drop m (take (m + k) s) ≡ take k (drop m s)
-drop-take m k s h = rw (take-add m k s) (drop-at (take m s) (take k (drop m s)) m (length-take-le m s h))
+use Rattle.text.proofs.Prefixes.{drop-take}
 
 value-long : (t : List ℕ) → isValue t ≡ true → 0 < length t
 unfolding isText

@@ -1,15 +1,15 @@
 -- Permitted fields are written to a string that is accepted and carries them, in every edition that passes the test `sound`.
 -- Assumes nothing.
 use Prim.Native.Nat.{ℕ, _*_, _≤_}
-use mathlib.Core.Bool.{Bool, true, false, not, _&&_, _||_, and-false, or-true, true≢false, false≢true}
-use mathlib.Core.List.{List, [], _∷_, _++_, map, append-assoc, append-nil}
+use mathlib.Core.Bool.{Bool, true, false, not, _&&_, _||_, and-false, true≢false, false≢true}
+use mathlib.Core.List.{List, [], _∷_, _++_, map, append-assoc}
 use mathlib.Core.Option.{none, some}
 use mathlib.Core.Path.{_≡_, refl, sym, _∙_, ap, subst}
 use native.Mathlib.Omega.{arith}
 use lib.Dec.{leb, eqb}
 use lib.ListN.{length}
-use borrow.Author.Tests.{eq-eqb, le-leb, le-ltb}
-use Rattle.text.specs.Text.{text, all, has, same, empty, join, listOf, broken, Frees, Fails, Fits}
+use borrow.Author.Tests.{le-leb, le-ltb}
+use Rattle.text.specs.Text.{text, all, has, same, empty, listOf, broken, Frees, Fails, Fits}
 use Rattle.grammar.specs.Bytes.{isNameByte, isValueByte, isText}
 use Rattle.decimal.specs.Decimal.{digits}
 use Rattle.grammar.specs.Limits.{mostItems}
@@ -20,7 +20,7 @@ use Rattle.grammar.specs.Claims.{Sorts}
 use Rattle.grammar.specs.declared.places.Piece.the-variants.{Version as Piece·Version, Params, Salt, Output}
 use Rattle.text.proofs.Tests.{both, and-true, neither, or-false, not-of-true, is-true, is-false}
 use Rattle.text.proofs.Rows.{Clear, zero-of, clear-append}
-use Rattle.text.proofs.Lists.{not-in, has-append}
+use Rattle.text.proofs.Lists.{not-in, has-middle}
 use Rattle.grammar.proofs.ItemLaws.{joined, items-params, item-free, items-free, name-free, value-free}
 use Rattle.grammar.proofs.PieceLaws.{pieces-string}
 use Rattle.grammar.proofs.Reading.{whole-first}
@@ -35,6 +35,7 @@ use Rattle.profile.proofs.Codecs.{digits-values, NumberWritten, number-
 use Rattle.profile.proofs.Slots.{slots-list}
 use Rattle.profile.specs.Sound.{sound}
 use Rattle.profile.proofs.Table.{Entry, entry-at, known-id}
+use Rattle.text.proofs.Joining.{marked, join-marked, join-free}
 
 -- ---- the items keep the grammar's rule
 
@@ -88,22 +89,8 @@ item-begins (c ∷ []) u e = is-false (same (c ∷ []) (text "v")) (both (isName
 item-begins (c ∷ d ∷ n) u e =
     version-has (c ∷ d ∷ n) (name-free 61 refl refl (c ∷ d ∷ n) (both (isName (c ∷ d ∷ n)) (not (same (c ∷ d ∷ n) (text "v"))) e .0))
 
--- what follows the first part of a joined list
-behind : ℕ → List (List ℕ) → List ℕ
-behind d [] = []
-behind d (q ∷ qs) = d ∷ join d q qs
-
-join-behind : (d : ℕ) (p : List ℕ) (qs : List (List ℕ)) → join d p qs ≡ p ++ behind d qs
-unfolding behind
-join-behind d p [] = sym (append-nil p)
-join-behind d p (q ∷ qs) = refl
-
-joined-begins : (i : Item) (is : List Item) → joined i is ≡ i .0 ++ 61 ∷ (i .1 ++ behind 44 (map itemText is))
-joined-begins i is = join-behind 44 (itemText i) (map itemText is) ∙ append-assoc (i .0) (61 ∷ i .1) (behind 44 (map itemText is))
-
-has-middle : (d : ℕ) (n u : List ℕ) → has d (n ++ d ∷ u) ≡ true
-has-middle d [] u = rw (eq-eqb d d refl)
-has-middle d (c ∷ n) u = rw (has-middle d n u, or-true)
+joined-begins : (i : Item) (is : List Item) → joined i is ≡ i .0 ++ 61 ∷ (i .1 ++ marked 44 (map itemText is))
+joined-begins i is = join-marked 44 (itemText i) (map itemText is) ∙ append-assoc (i .0) (61 ∷ i .1) (marked 44 (map itemText is))
 
 -- ---- the pieces sort as they stand
 
@@ -126,7 +113,7 @@ no-version [] none (some o) e v a = absurd a
 no-version [] (some s) o e v a = version-has s (value-free 61 refl refl s (is-true (isValue s) v))
 no-version (i ∷ is) salt output e v a =
     ap isVersionPiece (joined-begins i is)
-    ∙ item-begins (i .0) (i .1 ++ behind 44 (map itemText is)) (both (goodName (i .0)) (isValue (i .1)) (both (isItem i) (all isItem is) e .0) .0)
+    ∙ item-begins (i .0) (i .1 ++ marked 44 (map itemText is)) (both (goodName (i .0)) (isValue (i .1)) (both (isItem i) (all isItem is) e .0) .0)
 
 version-fit : (v : Version) (l : List (List ℕ)) → Fails (belongs Piece·Version) l → Fits (belongs Piece·Version) (writeVersion v) l
 version-fit Absent l h = h
@@ -138,7 +125,7 @@ unfolding isNameByte isValueByte
 params-fit [] none none v a = tt
 params-fit [] none (some o) v a = absurd a
 params-fit [] (some s) o v a = value-free 61 refl refl s (is-true (isValue s) v)
-params-fit (i ∷ is) salt output v a = ap (has 61) (joined-begins i is) ∙ has-middle 61 (i .0) (i .1 ++ behind 44 (map itemText is))
+params-fit (i ∷ is) salt output v a = ap (has 61) (joined-begins i is) ∙ has-middle 61 (i .0) (i .1 ++ marked 44 (map itemText is))
 
 salt-fit : (salt output : Slot) → After salt output → Fits (belongs Salt) salt (listOf output ++ [])
 salt-fit none none a = tt
@@ -158,10 +145,6 @@ Free (some t) = has 36 t ≡ false
 add-free : (s : Slot) (l : List (List ℕ)) → Free s → Frees 36 l → Frees 36 (listOf s ++ l)
 add-free none l h k = k
 add-free (some t) l h k = (h, k)
-
-join-free : (d j : ℕ) → eqb j d ≡ false → (p : List ℕ) (qs : List (List ℕ)) → has d p ≡ false → Frees d qs → has d (join j p qs) ≡ false
-join-free d j e p [] h k = h
-join-free d j e p (q ∷ qs) h k = has-append d p (j ∷ join j q qs) h (or-false e (join-free d j e q qs (k .0) (k .1)))
 
 version-free : (v : Version) → Free (writeVersion v)
 unfolding isValueByte

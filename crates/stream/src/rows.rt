@@ -30,14 +30,17 @@ fn waiting(out: &[u8], used: usize, count: usize) -> usize
     waits + least(count, out.len() - waits)
 }
 
-// Writes what waits; false where that fails.
+// Writes what waits; false where that fails, or where nothing waits: no row fits an empty buffer then.
 fn flush(out: &[u8], used: usize) -> bool {
+    if used == 0 {
+        return false;
+    }
     let n = least(used, out.len());
     io::write_all(STDOUT_FILENO, &out[0..n])
 }
 
-// The rows of the lines that end in a part; when no more fit, those that wait are written.
-pub fn take_part(array: &mut [u8; MOST_KEPT], out: &mut [u8], part: &[u8], begun: State) -> State
+// take_part, where every write so far succeeded.
+fn take_rows(array: &mut [u8; MOST_KEPT], out: &mut [u8], part: &[u8], begun: State) -> State
     ensures { λ r. ⌜ r .used ≤ length (now (out .entry)) ⌝ }
 {
     let mut kept = begun.kept;
@@ -84,6 +87,22 @@ pub fn take_part(array: &mut [u8; MOST_KEPT], out: &mut [u8], part: &[u8], begun
         line,
         used: least(used, out.len()),
         open: true,
+    }
+}
+
+// The rows of the lines that end in a part; when no more fit, those that wait are written. After a failed write nothing more is written, and
+// so where a row doesn't fit the whole buffer: 36 bytes are enough.
+pub fn take_part(array: &mut [u8; MOST_KEPT], out: &mut [u8], part: &[u8], begun: State) -> State
+    ensures { λ r. ⌜ r .used ≤ length (now (out .entry)) ⌝ }
+{
+    if begun.open {
+        return take_rows(array, out, part, begun);
+    }
+    State {
+        kept: begun.kept,
+        line: begun.line,
+        used: 0,
+        open: false,
     }
 }
 

@@ -51,7 +51,7 @@ module _ (D d₀ d : List ℕ) (o : ℕ) (vs R : List ℕ) (p : Partly D d₀ d 
       record { keeps = ap length so-far′ ∙ keeps′; done = done′; so-far = so-far′; left = rw (← drop-drop (length vs) o D, p .left) (drop-append-seam vs R) }
 
   -- the part from o to the end was lent, and came back as ys
-  pub partly-lent : (ys : List ℕ) → ys ≡ vs ++ drop (length vs) (take (length d - o) (drop o d))
+  partly-lent : (ys : List ℕ) → ys ≡ vs ++ drop (length vs) (take (length d - o) (drop o d))
       → Partly D d₀ (putMid o (length d - o) d ys) (o + length vs) R
   partly-lent ys e = rw (tail-over d vs ys o partly-room e) partly-step
 

@@ -2,10 +2,14 @@
 -- Assumes nothing.
 use Prim.Native.Nat.{ℕ, suc, _+_}
 use mathlib.Core.List.{List, [], _∷_, _++_, append-nil, append-assoc}
-use mathlib.Core.Path.{_≡_, sym, _∙_, ap}
+use mathlib.Core.Path.{_≡_, sym, _∙_, ap, refl}
 use native.Mathlib.Omega.{arith}
 use lib.ListN.{length, length-append}
-use Rattle.text.specs.Text.{join}
+use Rattle.text.specs.Text.{join, has, Frees, empty}
+use mathlib.Core.Bool.{false, not, true≢false}
+use lib.Dec.{eqb}
+use Rattle.text.proofs.Tests.{or-false}
+use Rattle.text.proofs.Lists.{has-append}
 
 -- the bytes of parts, each with a separator before it
 unfoldable pub total : List (List ℕ) → ℕ
@@ -36,3 +40,14 @@ append-five a b c d e =
 pub length-five : (a b c d e : List ℕ) → length (a ++ b ++ c ++ d ++ e) ≡ length a + length b + length c + length d + length e
 length-five a b c d e =
     omega (arith, length-append (a ++ b ++ c ++ d) e, length-append (a ++ b ++ c) d, length-append (a ++ b) c, length-append a b)
+
+-- ---- a byte that no part has
+
+pub join-free : (d j : ℕ) → eqb j d ≡ false → (p : List ℕ) (qs : List (List ℕ)) → has d p ≡ false → Frees d qs → has d (join j p qs) ≡ false
+join-free d j e p [] h k = h
+join-free d j e p (q ∷ qs) h k = has-append d p (j ∷ join j q qs) h (or-false e (join-free d j e q qs (k .0) (k .1)))
+
+pub total-none : (l : List (List ℕ)) → not (empty l) ≡ false → total l ≡ 0
+unfolding total
+total-none [] e = refl
+total-none (x ∷ l) e = absurd (true≢false e)

@@ -4,6 +4,7 @@ pub mod Table
 pub mod ClassLaws
 pub mod Scanning
 pub mod Lists
+pub mod Options
 pub mod Prefixes
 pub mod Starts
 pub mod Runs

@@ -1,18 +1,20 @@
--- Laws of emptiness, of tests on every element, of splitting and joining, of cutting at a byte, and of taking a first element that passes a
--- test.
+-- Laws of emptiness, of tests on every element, of splitting and joining, of cutting at a byte, of taking a first element that passes a test,
+-- and of an element at a place.
 -- Assumes nothing.
-use Prim.Native.Nat.{ℕ, zero, suc}
-use mathlib.Core.Bool.{Bool, true, false, cond, _&&_, _||_, and-assoc, true≢false, false≢true}
+use Prim.Native.Nat.{ℕ, zero, suc, _<_, _+_}
+use mathlib.Core.Bool.{Bool, true, false, cond, _&&_, _||_, and-assoc, true≢false, false≢true, or-true}
 use mathlib.Core.List.{List, [], _∷_, _++_}
 use mathlib.Core.Option.{Option, none, some}
 use mathlib.Core.Path.{_≡_, refl, sym, _∙_, ap, ap₂}
 use mathlib.Core.Logic.{⊎-elim}
 use native.Mathlib.Omega.{arith}
 use lib.Dec.{eqb}
-use lib.ListN.{length, take}
+use lib.ListN.{length, take, getD, set, drop}
 use borrow.Author.Tests.{eqb-true, eq-eqb}
-use Rattle.text.specs.Text.{all, has, same, empty, Parts, putByte, split, join, cutByte, cut, headIf, tailIf, listOf, Frees, Fails, Fits}
-use Rattle.text.proofs.Tests.{both, and-true, neither, or-false, either}
+use Rattle.text.specs.Text.{all, has, same, empty, Parts, putByte, split, join, cutByte, cut, headIf, tailIf, listOf, Frees, Fails, Fits, broken}
+use Rattle.text.proofs.Tests.{both, and-true, neither, or-false, either, not-of-true}
+use native.Mathlib.Numerals.{add-one}
+use lib.Seq.{drop-cons, getD-set-same, drop-set-lt, lt-length-set}
 
 -- ---- emptiness
 
@@ -67,6 +69,10 @@ all-has f d s a h = ⊎-elim (λ p. p) (λ q. absurd (true≢false (sym h ∙ no
 pub all-append : (f : ℕ → Bool) (s u : List ℕ) → all f (s ++ u) ≡ (all f s && all f u)
 all-append f [] u = refl
 all-append f (c ∷ s) u = rw (all-append f s u, and-assoc)
+
+pub has-middle : (d : ℕ) (n u : List ℕ) → has d (n ++ d ∷ u) ≡ true
+has-middle d [] u = rw (eq-eqb d d refl)
+has-middle d (c ∷ n) u = rw (has-middle d n u, or-true)
 
 pub all-map : (f g : ℕ → Bool) → ((c : ℕ) → f c ≡ true → g c ≡ true) → (s : List ℕ) → all f s ≡ true → all g s ≡ true
 all-map f g h [] p = refl
@@ -160,3 +166,25 @@ module _ {A : Type 0} (f : A → Bool) where
   pub tail-of : (o : Option A) (l : List A) → Fits f o l → tailIf f (listOf o ++ l) ≡ l
   tail-of none l h = tail-none l h
   tail-of (some x) l h = rw h
+
+  -- what is taken passes
+  pub head-passes : (l : List A) → broken f (headIf f l) ≡ false
+  head-passes [] = refl
+  head-passes (x ∷ l) = go (f x) refl
+    where
+      go : (b : Bool) → f x ≡ b → broken f (cond {A = Option A} b (some x) none) ≡ false
+      go true e = not-of-true e
+      go false e = refl
+
+-- ---- by places
+
+pub all-at : (f : ℕ → Bool) (t : List ℕ) → all f t ≡ true → (i : ℕ) → i < length t → f (getD t i 0) ≡ true
+all-at f [] e i h = absurd (omega arith)
+all-at f (c ∷ t) e zero h = both (f c) (all f t) e .0
+all-at f (c ∷ t) e (suc i) h = all-at f t (both (f c) (all f t) e .1) i (omega arith)
+
+-- what stands from i on after a store at i
+pub drop-set-same : (l : List ℕ) (i v : ℕ) → i < length l → drop i (set l i v) ≡ v ∷ drop (i + 1) l
+drop-set-same l i v h =
+    let k : i < length (set l i v) = lt-length-set l i v h in
+    rw (drop-cons (set l i v) i 0 k, getD-set-same l i v 0 h, drop-set-lt (suc i) l i v (omega arith), add-one)

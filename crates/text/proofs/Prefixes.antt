@@ -8,7 +8,7 @@ use native.Mathlib.Nat.{zero-min, min-zero, suc-min-suc}
 use native.Mathlib.Omega.{arith}
 use lib.Dec.{leb}
 use lib.ListN.{length, take, drop, length-append, length-take}
-use lib.Seq.{length-take-le, take-all, take-append-add}
+use lib.Seq.{length-take-le, take-all, take-append-add, take-add, drop-at, drop-drop}
 use borrow.Author.Tests.{leb-true, leb-false}
 use Rattle.text.specs.Place.{over}
 
@@ -50,3 +50,12 @@ module _ {A : Type 0} (F : List ℕ → A) (n : ℕ) (x : A) (long : (l : List �
 
   pub same-prefix : (u v : List ℕ) → take n u ≡ take n v → F u ≡ F v
   same-prefix u v e = sym (by-prefix u) ∙ ap F e ∙ by-prefix v
+
+pub drop-take : (m k : ℕ) (s : List ℕ) → m ≤ length s → drop m (take (m + k) s) ≡ take k (drop m s)
+drop-take m k s h = rw (take-add m k s) (drop-at (take m s) (take k (drop m s)) m (length-take-le m s h))
+
+-- what stands after a separator and a name
+pub rest-at : (s name : List ℕ) (at : ℕ) → drop (suc (length name)) (drop at s) ≡ drop (at + 1 + length name) s
+rest-at s name at =
+    let e : at + suc (length name) ≡ at + 1 + length name = omega arith in
+    drop-drop (suc (length name)) at s ∙ ap (λ (k : ℕ). drop k s) e

@@ -3,7 +3,7 @@
 use Prim.Native.Nat.{ℕ, _<_}
 use mathlib.Core.Bool.{Bool, true, false, cond, _&&_}
 use mathlib.Core.List.{List, [], _∷_, _++_}
-use mathlib.Core.Path.{_≡_, refl}
+use mathlib.Core.Path.{_≡_, refl, sym, _∙_}
 use native.Mathlib.Omega.{arith}
 use lib.Dec.{ltb}
 use borrow.Author.Tests.{ltb-true}
@@ -38,3 +38,22 @@ zero-of (r ∷ rs) c = rw (c .0) (zero-of rs (c .1))
 pub clear-append : (rs ts : List Row) → Clear rs → Clear ts → Clear (rs ++ ts)
 clear-append [] ts c d = d
 clear-append (r ∷ rs) ts c d = (c .0, clear-append rs ts (c .1) d)
+
+-- ---- rows before others
+
+-- one of them applies
+pub rows-stop : (rs ts : List Row) (n : ℕ) → n ≡ firstOf rs → (n ≡ 0 → ⊥) → firstOf (rs ++ ts) ≡ n
+rows-stop [] ts n e z = absurd (z e)
+rows-stop (r ∷ rs) ts n e z = go (r .applies) (λ (h : n ≡ firstOf rs). rows-stop rs ts n h z) e
+  where
+    go : (b : Bool) → (n ≡ firstOf rs → firstOf (rs ++ ts) ≡ n) → n ≡ cond b (r .number) (firstOf rs) → cond b (r .number) (firstOf (rs ++ ts)) ≡ n
+    go true f h = sym h
+    go false f h = f h
+
+-- none does
+pub rows-pass : (rs ts : List Row) → Clear rs → firstOf (rs ++ ts) ≡ firstOf ts
+rows-pass [] ts c = refl
+rows-pass (r ∷ rs) ts c = rw (c .0) (rows-pass rs ts (c .1))
+
+pub rows-next : (rs ts : List Row) (n : ℕ) → positive rs ≡ true → n ≡ firstOf rs → n ≡ 0 → firstOf (rs ++ ts) ≡ firstOf ts
+rows-next rs ts n t e z = rows-pass rs ts (clear rs t (sym e ∙ z))

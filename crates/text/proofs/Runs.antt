@@ -28,7 +28,7 @@ run-on f (c ∷ t) u a e = let p = both (f c) (all f t) a in rw (p .0) (ap {B = 
 
 -- past the end stands 0, which is of no class here
 module _ (f : ℕ → Bool) (z : f 0 ≡ false) where
-  pub run-at : (s : List ℕ) (i : ℕ) → run f (drop i s) ≡ cond (f (getD s i 0)) (getD s i 0 ∷ run f (drop (suc i) s)) []
+  run-at : (s : List ℕ) (i : ℕ) → run f (drop i s) ≡ cond (f (getD s i 0)) (getD s i 0 ∷ run f (drop (suc i) s)) []
   run-at [] zero = rw z
   run-at [] (suc i) = rw z
   run-at (c ∷ s) zero = refl

@@ -124,3 +124,10 @@ unfound d s h = has-find d s ∙ le-ltb (find d s) (length s) h
 
 pub find-inside : (d : ℕ) (s : List ℕ) → has d s ≡ true → find d s < length s
 find-inside d s h = ltb-true (find d s) (length s) (sym (has-find d s) ∙ h)
+
+-- what stands from after it on
+
+pub cut-past : (d : ℕ) (p : List ℕ) (from place : ℕ) → place ≡ suc (from + find d (drop from p)) → drop place p ≡ cut d (drop from p) .1
+cut-past d p from place e =
+    let q : place ≡ from + (find d (drop from p) + 1) = omega arith in
+    ap (λ (k : ℕ). drop k p) q ∙ sym (drop-drop (find d (drop from p) + 1) from p) ∙ sym (cut-after d (drop from p))

@@ -1,17 +1,18 @@
 -- A text that begins with another: what it is, and the test of it place by place; and how a text begins.
 -- Assumes nothing.
 use Prim.Native.Nat.{ℕ, suc, _+_, _≤_, _<_}
-use mathlib.Core.Bool.{Bool, true, false, _&&_, _||_, and-false, false≢true}
-use mathlib.Core.List.{List, [], _∷_, _++_}
-use mathlib.Core.Path.{_≡_, refl, ap, ap₂}
+use mathlib.Core.Bool.{Bool, true, false, _&&_, _||_, and-false, false≢true, cond, not}
+use mathlib.Core.List.{List, [], _∷_, _++_, append-assoc}
+use mathlib.Core.Path.{_≡_, refl, ap, ap₂, sym, _∙_}
 use native.Mathlib.Numerals.{add-one}
 use native.Mathlib.Omega.{arith}
 use lib.Dec.{eqb}
 use lib.ListN.{length, drop, getD, drop-of-length-le}
-use lib.Seq.{drop-cons}
+use lib.Seq.{drop-cons, drop-at}
 use borrow.Author.Tests.{eqb-true, eq-eqb, ne-eqb}
 use Rattle.text.specs.Text.{has, find, startsWith}
-use Rattle.text.proofs.Tests.{both, and-true, neither}
+use Rattle.text.proofs.Tests.{both, and-true, neither, is-false}
+use mathlib.Core.Option.{Option}
 
 -- ---- a text that begins with another
 
@@ -44,7 +45,7 @@ starts-short [] t h = absurd (omega arith)
 starts-short (c ∷ l) [] h = refl
 starts-short (c ∷ l) (d ∷ t) h = rw (starts-short l t (omega arith)) (and-false (eqb d c))
 
--- what begins with a text goes on after it
+-- what begins with a text is at least as long
 pub starts-text : (l t : List ℕ) → startsWith l t ≡ true → length l ≤ length t
 starts-text [] t e = omega arith
 starts-text (c ∷ l) [] e = let z : _≡_ {A = Bool} false true = e in let n : _≡_ {A = ℕ} 0 1 = cc in absurd (omega arith)
@@ -80,3 +81,23 @@ pub find-behind : (d : ℕ) (t u : List ℕ) → has d t ≡ false → Begins (�
 find-behind d [] [] e h = refl
 find-behind d [] (c ∷ u) e h = rw (eq-eqb c d h)
 find-behind d (c ∷ t) u e h = let q = neither (eqb c d) (has d t) e in rw (q .0) (ap suc (find-behind d t u (q .1) h))
+
+-- starts-behind a text that begins with l
+pub starts-behind : (l t u rest : List ℕ) → startsWith l t ≡ true → drop (length l) t ≡ u ++ rest → t ≡ (l ++ u) ++ rest
+starts-behind l t u rest e h = starts-is l t e ∙ ap (λ (x : List ℕ). l ++ x) h ∙ sym (append-assoc l u rest)
+
+-- what stands behind its tag is read there
+pub behind-tag : {A : Type 0} (tag t rest : List ℕ) (read : List ℕ → Option A) (left : Option A)
+    → cond (startsWith tag ((tag ++ t) ++ rest)) (read (drop (length tag) ((tag ++ t) ++ rest))) left ≡ read (t ++ rest)
+behind-tag tag t rest read left = rw (append-assoc tag t rest, starts-own tag (t ++ rest), drop-at tag (t ++ rest) (length tag) refl)
+
+-- two texts differ in the first byte
+abbrev pub differ : List ℕ → List ℕ → Bool
+differ [] b = false
+differ (c ∷ a) [] = false
+differ (c ∷ a) (d ∷ b) = not (eqb d c)
+
+pub starts-differ : (a b t : List ℕ) → differ a b ≡ true → startsWith a (b ++ t) ≡ false
+starts-differ [] b t e = absurd (false≢true e)
+starts-differ (c ∷ a) [] t e = absurd (false≢true e)
+starts-differ (c ∷ a) (d ∷ b) t e = rw (is-false (eqb d c) e)

@@ -1,12 +1,14 @@
 -- What a Bool test that came out true or false tells of its parts.
 -- Assumes nothing.
-use Prim.Native.Nat.{ℕ, _≤_}
+use Prim.Native.Nat.{ℕ, _≤_, _<_}
 use mathlib.Core.Bool.{Bool, true, false, not, _&&_, _||_, true≢false, false≢true}
 use mathlib.Core.Path.{_≡_, refl}
 use mathlib.Core.Logic.{_⊎_, inl, inr}
 use lib.Dec.{leb}
 use borrow.Author.Tests.{leb-true, le-leb}
 use Rattle.text.specs.Text.{within}
+use native.Mathlib.Decide.{decLt}
+use native.Mathlib.Omega.{arith}
 
 pub both : (a b : Bool) → (a && b) ≡ true → (a ≡ true) × (b ≡ true)
 both true b e = (refl, e)
@@ -46,3 +48,13 @@ to-within low high n p q = and-true (le-leb low n p) (le-leb n high q)
 pub either : (b : Bool) → (b ≡ true) ⊎ (b ≡ false)
 either true = inl refl
 either false = inr refl
+
+pub three-false : (a b c d e : Bool) → (a || b || c || d || e) ≡ false → (a ≡ false) × (b ≡ false) × (c ≡ false)
+three-false a b c d e h =
+    let l = neither (a || b || c) d (neither (a || b || c || d) e h .0) .0 in
+    let k = neither (a || b) c l in
+    let n = neither a b (k .0) in
+    (n .0, n .1, k .1)
+
+pub below? : (n m : ℕ) → (n < m) ⊎ (m ≤ n)
+below? n m = elim (decLt n m) [ yes h ↦ inl h | no h ↦ inr (omega arith) ]

@@ -10,7 +10,7 @@ use native.Mathlib.Decide.{decLe}
 use lib.Dec.{leb, eqb}
 use lib.ListN.{length, take, drop, length-drop}
 use lib.Seq.{drop-at, drop-drop, length-take-le, drop-length, take-all, take-append-seam}
-use borrow.Author.Tests.{eqb-true, eq-eqb, ne-eqb, le-leb, lt-leb, leb-true}
+use borrow.Author.Tests.{eqb-true, eq-eqb, ne-eqb, le-leb, lt-leb, leb-true, eqb-false}
 use borrow.Rule.Slice.PartMut.{putMid, post-is}
 use Rattle.text.specs.Place.{Outcome, outcome, refused, over, put, putAfter}
 
@@ -27,7 +27,7 @@ leb-sub n at size h =
 pub tail-part : (xs : List ℕ) (a : ℕ) → take (length xs - a) (drop a xs) ≡ drop a xs
 tail-part xs a = take-all (length xs - a) (drop a xs) (le-of-eq (length-drop a xs))
 
-pub tail-put : (xs ys : List ℕ) (a : ℕ) → a ≤ length xs → putMid a (length xs - a) xs ys ≡ take a xs ++ ys
+tail-put : (xs ys : List ℕ) (a : ℕ) → a ≤ length xs → putMid a (length xs - a) xs ys ≡ take a xs ++ ys
 tail-put xs ys a h =
     ap (λ (z : List ℕ). take a xs ++ (ys ++ z)) (post-is a (length xs) xs h ∙ drop-length xs)
     ∙ ap (λ (z : List ℕ). take a xs ++ z) (append-nil ys)
@@ -106,3 +106,28 @@ after-zero n buffer at bytes z = go (eqb n 0) refl (leb (at + length bytes) (len
 pub after-done : (n : ℕ) (buffer : List ℕ) (at : ℕ) (bytes : List ℕ) → n ≡ 0 → at + length bytes ≤ length buffer
     → putAfter n buffer at bytes ≡ outcome 0 (length bytes) (over buffer at bytes)
 after-done n buffer at bytes z h = put-clear buffer at bytes n z ∙ sym (put-done buffer at bytes h (length bytes) refl (over buffer at bytes) refl)
+
+-- what was written at one place of one buffer tells the bytes
+pub over-same : (buffer : List ℕ) (at : ℕ) (x y : List ℕ) → at ≤ length buffer
+    → outcome 0 (length x) (over buffer at x) ≡ outcome 0 (length y) (over buffer at y) → x ≡ y
+over-same buffer at x y h q =
+    let c : length x ≡ length y = ap (λ (o : Outcome). o .count) q in
+    let b : over buffer at x ≡ over buffer at y = ap (λ (o : Outcome). o .buffer) q in
+    sym (over-back buffer x at h) ∙ (λ i. take (c i) (drop at (b i))) ∙ over-back buffer y at h
+
+-- what a number of 0 says of a number before it, and of the count
+pub after-counted : (n : ℕ) (buffer bytes : List ℕ) (number count : ℕ) (left : List ℕ) → outcome number count left ≡ putAfter n buffer 0 bytes → number ≡ 0
+    → (n ≡ 0) × (count ≡ length bytes)
+after-counted n buffer bytes number count left e z =
+    let q = after-zero n buffer 0 bytes (sym (ap (λ (o : Outcome). o .number) e) ∙ z) in
+    (q .0, ap (λ (o : Outcome). o .count) (e ∙ after-done n buffer 0 bytes (q .0) (q .1)))
+
+-- the number, where the bytes fit
+pub after-number : (n : ℕ) (buffer bytes : List ℕ) → (n ≡ 0 → length bytes ≤ length buffer) → putAfter n buffer 0 bytes .number ≡ n
+after-number n buffer bytes h = go (eqb n 0) refl
+  where
+    go : (b : Bool) → eqb n 0 ≡ b → putAfter n buffer 0 bytes .number ≡ n
+    go true t =
+        let z = eqb-true n 0 t in
+        ap (λ (o : Outcome). o .number) (after-done n buffer 0 bytes z (omega (arith, h z))) ∙ sym z
+    go false t = sym (ap (λ (o : Outcome). o .number) (put-refused buffer 0 bytes n n refl (omega (arith, eqb-false n 0 t))))

@@ -1,4 +1,5 @@
--- Texts as lists of numbers: tests on them, the parts between separators and the way back, a first element that passes a test.
+-- Texts as lists of numbers. In this order: the text of a literal; tests on every element, on two texts and on a beginning; the place of an
+-- element; the parts between separators and the way back; what stands before and after a separator; a first element that passes a test.
 -- Assumes nothing.
 use Prim.Native.Nat.{ℕ, suc, _+_}
 use Prim.Native.Char.{code}
@@ -14,6 +15,8 @@ use lib.ListN.{length, drop}
 abbrev pub text : String → List ℕ
 text nil = []
 text (_⊳_ c s) = code c ∷ text s
+
+-- ---- tests
 
 -- low ≤ n ≤ high
 abbrev pub within : ℕ → ℕ → ℕ → Bool
@@ -45,6 +48,19 @@ abbrev pub empty : {A : Type 0} → List A → Bool
 empty [] = true
 empty (x ∷ xs) = false
 
+-- the elements of a class at the start of a text
+abbrev pub run : (ℕ → Bool) → List ℕ → List ℕ
+run f [] = []
+run f (c ∷ s) = cond (f c) (c ∷ run f s) []
+
+-- the second text begins with the first
+abbrev pub startsWith : List ℕ → List ℕ → Bool
+startsWith [] t = true
+startsWith (c ∷ l) [] = false
+startsWith (c ∷ l) (d ∷ t) = eqb d c && startsWith l t
+
+-- ---- places
+
 -- how many elements stand before the first d; all of them where there is none
 abbrev pub find : ℕ → List ℕ → ℕ
 find d [] = 0
@@ -54,6 +70,8 @@ find d (c ∷ cs) = cond (eqb c d) 0 (suc (find d cs))
 -- Free answer: past the end it is the place itself
 abbrev pub nextAt : ℕ → List ℕ → ℕ → ℕ
 nextAt d s from = from + find d (drop from s)
+
+-- ---- the parts between separators
 
 -- the parts between the separators d: the first, and the others
 abbrev pub Parts : Type 0
@@ -90,6 +108,8 @@ abbrev pub Frees : ℕ → List (List ℕ) → Type 0
 Frees d [] = Unit {0}
 Frees d (p ∷ ps) = (has d p ≡ false) × Frees d ps
 
+-- ---- before and after the first separator
+
 -- what stands before the first d, and what stands after it; all and nothing where there is none
 abbrev pub cutByte : Bool → ℕ → List ℕ → List ℕ × List ℕ → List ℕ × List ℕ
 cutByte true c cs r = ([], cs)
@@ -98,6 +118,8 @@ cutByte false c cs r = (c ∷ r .0, r .1)
 abbrev pub cut : ℕ → List ℕ → List ℕ × List ℕ
 cut d [] = ([], [])
 cut d (c ∷ cs) = cutByte (eqb c d) c cs (cut d cs)
+
+-- ---- a first element that passes a test
 
 -- the first element where it passes a test, and what is left then
 abbrev pub headIf : {A : Type 0} → (A → Bool) → List A → Option A
@@ -122,16 +144,10 @@ abbrev pub Fits : {A : Type 0} → (A → Bool) → Option A → List A → Type
 Fits f none l = Fails f l
 Fits f (some x) l = f x ≡ true
 
--- the elements of a class at the start of a text
-abbrev pub run : (ℕ → Bool) → List ℕ → List ℕ
-run f [] = []
-run f (c ∷ s) = cond (f c) (c ∷ run f s) []
-
--- the second text begins with the first
-abbrev pub startsWith : List ℕ → List ℕ → Bool
-startsWith [] t = true
-startsWith (c ∷ l) [] = false
-startsWith (c ∷ l) (d ∷ t) = eqb d c && startsWith l t
+-- what follows where something is there
+abbrev pub andThen : {A B : Type 0} → Option A → (A → Option B) → Option B
+andThen none f = none
+andThen (some x) f = f x
 
 -- present, and fails the test
 abbrev pub broken : {A : Type 0} → (A → Bool) → Option A → Bool

@@ -1,12 +1,12 @@
 -- `fast_path::run::put_one` meets its contract. Assumes nothing.
 use native.Mathlib.Omega.{arith}
-use Rattle.fast_path.proofs.RunLaws.{put-one-is}
+use Rattle.text.proofs.Over.{over-set}
 use borrow.Author.Needs.{needs}
 use Rattle.fast_path.proofs.run.put_one.Statement.{statement}
 use Rattle.fast_path.proofs.run.put_one.Tie as tie
 
 returns : tie.Need-returns
-returns c = put-one-is (c .args .out .now) (c .args .o) _ (omega arith)
+returns c = over-set (c .args .out .now) (c .args .o) _ (omega arith)
 
 pub put-one-spec : {M : Type 1} → statement M
 put-one-spec = tie.close (tie.spec (λ c. search needs) (λ c. search needs) (λ c. search needs) (λ c. search needs) returns)

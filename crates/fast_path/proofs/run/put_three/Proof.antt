@@ -1,7 +1,7 @@
 -- `fast_path::run::put_three` meets its contract. Assumes nothing.
 use native.Mathlib.Omega.{arith}
 use lib.ListN.{length-set}
-use Rattle.fast_path.proofs.RunLaws.{put-three-is}
+use Rattle.text.proofs.Over.{over-set-three}
 use borrow.Author.Needs.{needs}
 use Rattle.fast_path.proofs.run.put_three.Statement.{statement}
 use Rattle.fast_path.proofs.run.put_three.Tie as tie
@@ -13,7 +13,7 @@ slice-write-out-3 : tie.Need-slice-write-out-3
 slice-write-out-3 c = simp length-set (omega arith)
 
 returns : tie.Need-returns
-returns c = put-three-is (c .args .out .now) (c .args .o) _ _ _ (omega arith)
+returns c = over-set-three (c .args .out .now) (c .args .o) _ _ _ (omega arith)
 
 pub put-three-spec : {M : Type 1} → statement M
 put-three-spec =

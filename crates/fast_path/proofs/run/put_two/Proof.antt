@@ -1,7 +1,7 @@
 -- `fast_path::run::put_two` meets its contract. Assumes nothing.
 use native.Mathlib.Omega.{arith}
 use lib.ListN.{length-set}
-use Rattle.fast_path.proofs.RunLaws.{put-two-is}
+use Rattle.text.proofs.Over.{over-set-two}
 use borrow.Author.Needs.{needs}
 use Rattle.fast_path.proofs.run.put_two.Statement.{statement}
 use Rattle.fast_path.proofs.run.put_two.Tie as tie
@@ -10,7 +10,7 @@ slice-write-out-2 : tie.Need-slice-write-out-2
 slice-write-out-2 c = simp length-set (omega arith)
 
 returns : tie.Need-returns
-returns c = put-two-is (c .args .out .now) (c .args .o) _ _ (omega arith)
+returns c = over-set-two (c .args .out .now) (c .args .o) _ _ (omega arith)
 
 pub put-two-spec : {M : Type 1} → statement M
 put-two-spec =

@@ -1,8 +1,10 @@
 -- `fast_path::walk::walk_string` meets its contract. Assumes nothing.
-use Rattle.fast_path.proofs.Chains.{walked-empty, walked-other, next-inside, walked-id}
+use Rattle.fast_path.proofs.Chains.{walked-empty, walked-other, walked-id}
 use borrow.Author.Needs.{needs}
 use Rattle.fast_path.proofs.walk.walk_string.Statement.{statement}
 use Rattle.fast_path.proofs.walk.walk_string.Tie as tie
+use Rattle.text.proofs.Scanning.{find-from-le}
+use native.Mathlib.Omega.{arith}
 
 returns : tie.Need-returns
 returns c = walked-empty _ _ (c .if1 .taken)
@@ -13,14 +15,14 @@ returns-2 c = walked-other _ _ (c .before .before .if1 .left) (c .if2 .taken)
 part-id-number-end : tie.Need-part-id-number-end
 part-id-number-end c =
     let e = c .before .before .before in
-    rw (c .next-at .ensures) (next-inside 36 (e .before .before .before .args .s .now) (e .if1 .left))
+    rw (c .next-at .ensures) (find-from-le 36 (e .before .before .before .args .s .now) 1 (omega (arith, e .if1 .left)))
 
 after-id-requires : tie.Need-after-id-requires
 after-id-requires c κs =
     let n = c .before .before .before in
     let e = n .before .before .before in
     let st = e .before .before .before in
-    ((rw (n .next-at .ensures) (next-inside 36 (st .args .s .now) (e .if1 .left)), st .pre .0), st .pre .1)
+    ((rw (n .next-at .ensures) (find-from-le 36 (st .args .s .now) 1 (omega (arith, e .if1 .left))), st .pre .0), st .pre .1)
 
 returns-3 : tie.Need-returns-3
 returns-3 c =

@@ -2,7 +2,7 @@
 use mathlib.Core.Path.{refl}
 use native.Mathlib.Omega.{arith}
 use Rattle.phc.specs.Records.{recordBytes}
-use Rattle.phc.proofs.RecordLaws.{put-after}
+use Rattle.text.proofs.Over.{put-after}
 use borrow.Author.Needs.{needs}
 use Rattle.phc.proofs.record.put_whole.Statement.{statement}
 use Rattle.phc.proofs.record.put_whole.Tie as tie

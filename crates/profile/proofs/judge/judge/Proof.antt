@@ -16,7 +16,8 @@ use Rattle.profile.specs.Reader.{misplaced, numberRows, spellingRows, ro
 use Rattle.profile.specs.ReaderSteps.{slotIn, slotsIn, NumbersAre, Judged}
 use Rattle.profile.specs.declared.judge.Judgement.{Judgement}
 use Rattle.profile.specs.declared.limits.Limits.{Limits}
-use Rattle.profile.proofs.JudgeLaws.{rows-stop, rows-next, judged-refused, judged-accepted, judged-before}
+use Rattle.profile.proofs.JudgeLaws.{judged-refused, judged-accepted, judged-before}
+use Rattle.text.proofs.Rows.{rows-stop, rows-next}
 use Rattle.profile.proofs.judge.judge.Statement.{statement}
 use Rattle.profile.proofs.judge.judge.Tie as tie
 

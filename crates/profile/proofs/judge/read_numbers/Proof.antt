@@ -15,7 +15,8 @@ use Rattle.profile.specs.Reader.{slotAt, numberRow, numberRows}
 use Rattle.profile.specs.ReaderSteps.{slotsIn, Judged}
 use Rattle.profile.specs.declared.judge.Judgement.{Judgement}
 use Rattle.profile.specs.declared.limits.Limits.{Limits}
-use Rattle.profile.proofs.JudgeLaws.{placed, lanes, rows-stop, rows-next, judged-refused, judged-accepted}
+use Rattle.profile.proofs.JudgeLaws.{placed, lanes, judged-refused, judged-accepted}
+use Rattle.text.proofs.Rows.{rows-stop, rows-next}
 use Rattle.profile.proofs.judge.read_numbers.Statement.{statement}
 use Rattle.profile.proofs.judge.read_numbers.Tie as tie
 

@@ -6,12 +6,11 @@ use borrow.Author.Needs.{needs}
 use denote.Ref.{now}
 use lib.ListN.{drop}
 use Rattle.text.specs.Rows.{Row, firstOf}
-use Rattle.text.proofs.Rows.{clear}
+use Rattle.text.proofs.Rows.{clear, rows-stop, rows-pass}
 use Rattle.profile.specs.Limits.{limitsOf, profileOf, editionTwo}
 use Rattle.profile.specs.Fields.{FieldSet, fieldSet}
 use Rattle.profile.specs.Writer.{rangeRows, bytesRows, writerRows, refusal}
 use Rattle.profile.specs.declared.limits.Limits.{Limits}
-use Rattle.profile.proofs.JudgeLaws.{rows-stop, rows-pass}
 use Rattle.profile.proofs.writer_rows.refusal_of.Statement.{statement}
 use Rattle.profile.proofs.writer_rows.refusal_of.Tie as tie
 

@@ -1,9 +1,9 @@
--- `stream::rows::take_part` meets its contract. Assumes nothing.
+-- `stream::rows::take_rows` meets its contract. Assumes nothing.
 use mathlib.Core.Path.{_≡_}
 use borrow.Author.Needs.{needs}
 use lib.ListN.{length}
-use Rattle.stream.proofs.rows.take_part.Statement.{statement}
-use Rattle.stream.proofs.rows.take_part.Tie as tie
+use Rattle.stream.proofs.rows.take_rows.Statement.{statement}
+use Rattle.stream.proofs.rows.take_rows.Tie as tie
 
 abbrev Inv-loop : tie.InvT-loop
 Inv-loop array₀ out₀ part kept₀ line₀ used₀ from₀ turns₀ array out kept line used from turns = length out ≡ length out₀
@@ -11,8 +11,8 @@ Inv-loop array₀ out₀ part kept₀ line₀ used₀ from₀ turns₀ array out
 abbrev μ-loop : tie.MeasureT-loop
 μ-loop array₀ out₀ part kept₀ line₀ used₀ from₀ turns₀ array out kept line used from turns = turns
 
-pub take-part-spec : {M : Type 1} → statement M
-take-part-spec =
+pub take-rows-spec : {M : Type 1} → statement M
+take-rows-spec =
     tie.close
     (tie.spec
     Inv-loop
