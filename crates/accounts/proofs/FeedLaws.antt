@@ -6,14 +6,12 @@ use mathlib.Core.List.{List, [], _∷_, _++_, append-nil}
 use mathlib.Core.Path.{_≡_, refl, sym, ap, _∙_}
 use native.Mathlib.Omega.{arith}
 use borrow.Author.Tests.{le-leb, lt-leb}
-use lib.ListN.{length, take, drop, length-take, length-drop, length-append}
-use lib.Seq.{take-take, length-take-le}
+use lib.ListN.{length, take, drop, length-take, length-drop}
+use lib.Seq.{take-take}
 use Rattle.text.specs.Text.{has, find, cut, nextAt}
 use Rattle.text.specs.Place.{Outcome, outcome, refused, hasRoom, over, put}
 use Rattle.text.proofs.Scanning.{find-le}
 use Rattle.text.proofs.Splitting.{cut-before, found, unfound, cut-to}
-use Rattle.text.proofs.Writing.{put-fits, over-back}
-use Rattle.text.proofs.Wrote.{wrote-start, wrote-more}
 use Rattle.accounts.specs.Lines.{lastLine, lineAnswer}
 use Rattle.accounts.specs.Listing.{rowText, rowsFrom, nextLine}
 use Rattle.accounts.specs.Feeding.{mostKept, heldOf, fed, rowFed, nextFed}
@@ -21,7 +19,7 @@ use Rattle.accounts.specs.FeedingSteps.{Held}
 use Rattle.accounts.specs.declared.line.Answer.{Answer}
 use Rattle.accounts.specs.declared.listing.Listed.{Listed}
 use Rattle.accounts.specs.declared.listing.Listed.the-variants.{Row, UsedUp, NoRoom}
-use Rattle.text.proofs.Prefixes.{take-min, take-prefix, over-prefix}
+use Rattle.text.proofs.Prefixes.{take-min, kept-count, kept-over}
 
 -- ---- the bytes that a state stands for
 
@@ -36,30 +34,6 @@ held-by d kept n e q r =
       bytes = sym (cut-before 10 (take kept d) ∙ ap (λ (k : ℕ). take k (take kept d)) (sym f) ∙ take-take e kept d (omega arith));
       inside = omega arith;
     }
-
--- ---- a line of two parts
-
-pub copied : (begun more out d₁ d₂ : List ℕ) → length begun + length more ≤ length out
-    → (n₁ c₁ n₂ c₂ : ℕ) → outcome n₁ c₁ d₁ ≡ put out 0 begun → outcome n₂ c₂ d₂ ≡ put d₁ (length begun) more
-    → take (length begun + length more - 0) (drop 0 d₂) ≡ begun ++ more
-copied begun more out d₁ d₂ h n₁ c₁ n₂ c₂ e₁ e₂ =
-    let l = length-append begun more in
-    let w₁ = wrote-start out d₁ begun n₁ c₁ (omega arith) e₁ in
-    let c : length begun ≡ c₁ = sym (w₁ .count-is) in
-    let w₂ = wrote-more out d₁ d₂ begun more c₁ n₂ c₂ (omega arith) w₁ (e₂ ∙ ap (λ (k : ℕ). put d₁ k more) c) in
-    let z : length begun + length more - 0 ≡ length (begun ++ more) = omega arith in
-    (λ i. take (z i) (w₂ .left i)) ∙ over-back out (begun ++ more) 0 (omega arith)
-
--- ---- what is kept of more bytes
-
-pub kept-more : (d d₁ more : List ℕ) (held count n c : ℕ) → length d ≡ mostKept → held ≤ mostKept → count ≡ min (mostKept - held) (length more)
-    → outcome n c d₁ ≡ put d held (take (count - 0) (drop 0 more))
-    → (held + count ≡ held + length (take (mostKept - held) more)) × (d₁ ≡ over d held (take (mostKept - held) more))
-kept-more d d₁ more held count n c l h q e =
-    let t : take (count - 0) (drop 0 more) ≡ take (mostKept - held) more = let z : count - 0 ≡ min (mostKept - held) (length more) = omega arith in ap (λ (k : ℕ). take k more) z ∙ take-min more (mostKept - held) in
-    let k : length (take (mostKept - held) more) ≡ min (mostKept - held) (length more) = length-take (mostKept - held) more in
-    let w = put-fits d held (take (mostKept - held) more) n c d₁ (omega arith) (e ∙ ap (put d held) t) in
-    (omega arith, w .left-is)
 
 -- ---- the end of the input
 
@@ -125,11 +99,10 @@ module _ (d : List ℕ) (kept held n : ℕ) (part : List ℕ) (from e : ℕ) (bu
   next-used d₁ at more rest inside l h q g r m o =
       let s = drop from part in
       let none : has 10 s ≡ false = unfound 10 s (omega (arith, length-drop from part)) in
-      let k : take mostKept (heldOf d kept ++ s) ≡ take held d ++ take (mostKept - held) rest = ap (λ (u : List ℕ). take mostKept (u ++ s)) (sym (h .bytes)) ∙ take-prefix mostKept d s held (omega (arith, h .inside)) (h .inside) ∙ ap (λ (u : List ℕ). take held d ++ take (mostKept - held) u) (sym r) in
-      let t = take (mostKept - held) rest in
-      let c : length (take held d) ≡ held = length-take-le held d (h .inside) in
-      let count : more ≡ length (take mostKept (heldOf d kept ++ s)) = m ∙ (let z : held + length t ≡ length (take held d ++ t) = omega (arith, length-append (take held d) t) in z) ∙ ap length (sym k) in
-      let array : d₁ ≡ over d 0 (take mostKept (heldOf d kept ++ s)) = o ∙ over-prefix d t held (h .inside) ∙ ap (over d 0) (sym k) in
+      let u : take mostKept (take held d ++ s) ≡ take mostKept (heldOf d kept ++ s) = ap (λ (v : List ℕ). take mostKept (v ++ s)) (h .bytes) in
+      let i = h .inside in
+      let count : more ≡ length (take mostKept (heldOf d kept ++ s)) = m ∙ ap (λ (v : List ℕ). held + length (take (mostKept - held) v)) r ∙ kept-count mostKept d s held (omega arith) i ∙ ap length u in
+      let array : d₁ ≡ over d 0 (take mostKept (heldOf d kept ++ s)) = o ∙ ap (λ (v : List ℕ). over d held (take (mostKept - held) v)) r ∙ kept-over mostKept d s held (omega arith) i ∙ ap (over d 0) u in
       rw (none, le-leb (at + 0) (length buf) (omega arith)) (λ i. fed (UsedUp (count i)) (array i) buf)
 
   pub next-past : (at : ℕ) → e ≡ nextAt 10 part from → length part ≤ e → length buf < at → fed NoRoom d buf ≡ nextFed d kept n part from buf at

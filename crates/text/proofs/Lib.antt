@@ -5,10 +5,10 @@ pub mod ClassLaws
 pub mod Scanning
 pub mod Lists
 pub mod Options
-pub mod Prefixes
 pub mod Starts
 pub mod Runs
 pub mod Writing
+pub mod Prefixes
 pub mod Over
 pub mod Wrote
 pub mod Writers

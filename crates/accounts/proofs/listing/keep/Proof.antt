@@ -1,16 +1,17 @@
 -- `accounts::listing::keep` meets its contract. Assumes nothing.
 use borrow.Author.Needs.{needs}
 use denote.Ref.{now}
-use Rattle.accounts.proofs.FeedLaws.{kept-more}
+use Rattle.text.proofs.Prefixes.{kept-more}
 use Rattle.accounts.proofs.listing.keep.Statement.{statement}
 use Rattle.accounts.proofs.listing.keep.Tie as tie
+use Rattle.accounts.specs.Feeding.{mostKept}
 
 returns : tie.Need-returns
 returns c =
     let w = c .before .before in
     let l = w .before .before .before in
     let s = l .before .before .before in
-    kept-more (now (s .args .array)) (w .write-text .last .1 .0) (now (s .args .more)) (s .args .held) (l .least .result) (w .write-text .result .number) (w .write-text .result .count .0)
+    kept-more mostKept (now (s .args .array)) (w .write-text .last .1 .0) (now (s .args .more)) (s .args .held) (l .least .result) (w .write-text .result .number) (w .write-text .result .count .0)
     (s .pre .0) (s .pre .1) (l .least .ensures) (w .write-text .ensures)
 
 pub keep-spec : {M : Type 1} → statement M
