@@ -6,6 +6,7 @@ use accounts::row::write_header;
 use grammar::places::Span;
 use grammar::places::part;
 use libc::STDIN_FILENO;
+use libc::STDOUT_FILENO;
 use stream::rows::State;
 use stream::rows::finish;
 use stream::rows::take_part;
@@ -70,10 +71,21 @@ fn list(text: &[u8]) {
     finish(&array, out, state);
 }
 
+// Made in a function of its own: a proof writes an array out wherever it is made.
+fn space() -> [u8; 524288] {
+    [0u8; 524288]
+}
+
 fn main() {
-    let mut input = [0u8; 524288];
+    let mut input = space();
     let n = io::read_full(STDIN_FILENO, &mut input);
     if n <= input.len() {
         list(&input[0..n]);
+    }
+    if input.len() <= n {
+        io::write_all(
+            STDOUT_FILENO,
+            b"the input fills the buffer: what follows is left out\n",
+        );
     }
 }
