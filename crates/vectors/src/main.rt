@@ -1,7 +1,7 @@
 // Worked examples, one on each line of standard input, its columns parted by tabs: RFC 4648's test vectors without padding, decimals on either
 // side of their rule, and strings of the grammar. A row is written back with what the entry gives for it. Buffers are filled with dots and
 // lent from a place in their middle, so that the bytes around what is written show. The stored output comes from the documents.
-// Columns: encode or decode, text, place; decimal, text, place; range, text, low, high; string, text; places, text.
+// Columns: encode, decode or number, text, place; range, text, low, high; string or places, text.
 use decimal::reader::Limited;
 use decimal::reader::read_decimal;
 use decimal::reader::read_within;
@@ -15,7 +15,6 @@ use libc::STDOUT_FILENO;
 use text::lines::after_line;
 use text::lines::line_at;
 use text::scan::nth_part;
-use text::scan::same_text;
 
 fn show(text: &[u8]) {
     io::write_all(STDOUT_FILENO, text);
@@ -125,37 +124,31 @@ fn places(s: &[u8]) {
     span(places.output);
 }
 
-fn answer(line: &[u8], entry: &[u8]) {
-    if same_text(entry, b"encode") {
-        encode(line);
-        return;
+// The first byte; 0 of an empty text.
+fn first(text: &[u8]) -> u8 {
+    if text.len() == 0 {
+        return 0;
     }
-    if same_text(entry, b"decode") {
-        decode(line);
-        return;
+    text[0]
+}
+
+// The first letter of a row names its entry.
+fn answer(line: &[u8]) {
+    let c = first(line);
+    match c {
+        b'e' => encode(line),
+        b'd' => decode(line),
+        b'n' => decimal(line),
+        b'r' => range(line),
+        b's' => string(column(line, 1)),
+        b'p' => places(column(line, 1)),
+        _ => show(b"\tno such entry"),
     }
-    if same_text(entry, b"decimal") {
-        decimal(line);
-        return;
-    }
-    if same_text(entry, b"range") {
-        range(line);
-        return;
-    }
-    if same_text(entry, b"string") {
-        string(column(line, 1));
-        return;
-    }
-    if same_text(entry, b"places") {
-        places(column(line, 1));
-        return;
-    }
-    show(b"\tno such entry");
 }
 
 fn row(line: &[u8]) {
     show(line);
-    answer(line, column(line, 0));
+    answer(line);
     show(b"\n");
 }
 
