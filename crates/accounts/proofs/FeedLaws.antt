@@ -12,6 +12,7 @@ use Rattle.text.specs.Text.{has, find, cut, nextAt}
 use Rattle.text.specs.Place.{Outcome, outcome, refused, hasRoom, over, put}
 use Rattle.text.proofs.Scanning.{find-le}
 use Rattle.text.proofs.Splitting.{cut-before, found, unfound, cut-to}
+use Rattle.text.proofs.Prefixes.{take-min, kept-count, kept-over}
 use Rattle.accounts.specs.Lines.{lastLine, lineAnswer}
 use Rattle.accounts.specs.Listing.{rowText, rowsFrom, nextLine}
 use Rattle.accounts.specs.Feeding.{mostKept, heldOf, fed, rowFed, nextFed}
@@ -19,7 +20,6 @@ use Rattle.accounts.specs.FeedingSteps.{Held}
 use Rattle.accounts.specs.declared.line.Answer.{Answer}
 use Rattle.accounts.specs.declared.listing.Listed.{Listed}
 use Rattle.accounts.specs.declared.listing.Listed.the-variants.{Row, UsedUp, NoRoom}
-use Rattle.text.proofs.Prefixes.{take-min, kept-count, kept-over}
 
 -- ---- the bytes that a state stands for
 

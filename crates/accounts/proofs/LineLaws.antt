@@ -8,11 +8,11 @@ use native.Mathlib.Omega.{arith}
 use lib.ListN.{length, take, drop}
 use borrow.Author.Tests.{lt-ltb, le-ltb, ne-eqb}
 use Rattle.text.specs.Text.{has, find}
-use Rattle.grammar.specs.Rules.{isName}
 use Rattle.text.proofs.Tests.{both, is-true}
 use Rattle.text.proofs.Rows.{clear}
 use Rattle.text.proofs.Splitting.{cut-before, cut-after, found, unfound, find-inside}
 use Rattle.text.proofs.Writing.{tail-part}
+use Rattle.grammar.specs.Rules.{isName}
 use Rattle.profile.specs.Limits.{editionTwo}
 use Rattle.profile.specs.Entries.{reading}
 use Rattle.profile.specs.declared.fields.Reading.{Reading}

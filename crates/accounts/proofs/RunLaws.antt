@@ -16,6 +16,7 @@ use Rattle.text.proofs.Lists.{has-append, cut-free, cut-whole, take-free}
 use Rattle.text.proofs.Splitting.{find-inside, cut-past}
 use Rattle.text.proofs.Writing.{put-zero, over-back}
 use Rattle.text.proofs.Over.{length-over}
+use Rattle.text.proofs.Prefixes.{take-cut, same-prefix}
 use Rattle.accounts.specs.Lines.{lastLine, linesFrom, lineAnswer}
 use Rattle.accounts.specs.Listing.{rowText, rowsFrom, nextLine}
 use Rattle.accounts.specs.Feeding.{heldOf, Fed, fed, nextFed, endPut, Calls, row, full, used, end, leftOf, mostKept}
@@ -23,7 +24,6 @@ use Rattle.accounts.specs.declared.line.Answer.{Answer}
 use Rattle.accounts.specs.declared.listing.Listed.{Listed}
 use Rattle.accounts.specs.declared.listing.Listed.the-variants.{Row, UsedUp, NoRoom}
 use Rattle.accounts.proofs.LineLaws.{answer-long}
-use Rattle.text.proofs.Prefixes.{take-cut, same-prefix}
 
 -- ---- lines
 

@@ -4,11 +4,11 @@ use Prim.Native.Nat.{ℕ, _≤_}
 use mathlib.Core.List.{List, _++_}
 use mathlib.Core.Path.{_≡_}
 use lib.ListN.{length}
+use Rattle.text.specs.Text.{concat}
 use Rattle.accounts.specs.Lines.{lines}
 use Rattle.accounts.specs.Listing.{header, rowText, largestLineNumber, rowsFrom, listing}
-use Rattle.accounts.specs.declared.line.Answer.{Answer}
 use Rattle.accounts.specs.Feeding.{mostKept, heldOf, Calls, leftOf}
-use Rattle.text.specs.Text.{concat}
+use Rattle.accounts.specs.declared.line.Answer.{Answer}
 
 -- however the input is cut: every run of calls
 pub record Listings : Type 0 where

@@ -13,11 +13,11 @@ use lib.Seq.{drop-cons, set-split, sets-eq}
 use borrow.Author.Tests.{ltb-true, le-leb, lt-leb, eq-eqb, ne-eqb}
 use Rattle.text.specs.Text.{all}
 use Rattle.text.specs.Place.{over}
+use Rattle.text.proofs.Groups.{Partly, partly-room, partly-step}
+use Rattle.text.proofs.Lists.{all-at}
 use Rattle.b64.specs.B64.{sextet, letter, inAlphabet, last, lowBitsZero, canonical, decode, char0, char1, char2, char3, encode, groupOf}
 use Rattle.b64.specs.B64Steps.{completedByte, completedBytes}
-use Rattle.text.proofs.Groups.{Partly, partly-room, partly-step}
 use Rattle.b64.proofs.B64Laws.{mod1, canonical-alphabet}
-use Rattle.text.proofs.Lists.{all-at}
 
 last-at : (t : List ℕ) → last t ≡ getD t (length t - 1) 0
 last-at [] = refl

@@ -10,10 +10,10 @@ use lib.Dec.{eqb}
 use lib.ListN.{length, replicate}
 use borrow.Author.Tests.{le-leb, lt-leb, ne-eqb, eq-eqb, eqb-true, ltb-true, leb-true, lt-ltb}
 use Rattle.text.specs.Text.{all, isByte}
-use Rattle.b64.specs.Lengths.{bytesOf, charsOf}
-use Rattle.b64.specs.B64.{sextet, letter, inAlphabet, lowBitsZero, canonical, byte0, byte1, byte2, decode, char0, char1, char2, char3, encode}
 use Rattle.text.proofs.Tests.{both, and-true}
 use Rattle.text.proofs.Table.{at}
+use Rattle.b64.specs.Lengths.{bytesOf, charsOf}
+use Rattle.b64.specs.B64.{sextet, letter, inAlphabet, lowBitsZero, canonical, byte0, byte1, byte2, decode, char0, char1, char2, char3, encode}
 
 -- ---- the alphabet: a computed test for each way
 

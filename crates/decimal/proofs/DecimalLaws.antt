@@ -11,9 +11,9 @@ use lib.Dec.{eqb}
 use lib.ListN.{length, length-append}
 use borrow.Author.Tests.{lt-ltb, le-ltb, ne-eqb, eqb-true, eqb-false}
 use Rattle.text.specs.Text.{all}
-use Rattle.decimal.specs.Decimal.{isDigit, isUnsigned, valueFrom, value, digitsWithin, digits}
 use Rattle.text.proofs.Tests.{both, either, from-within, to-within, below?}
 use Rattle.text.proofs.Lists.{empty-nil, all-append}
+use Rattle.decimal.specs.Decimal.{isDigit, isUnsigned, valueFrom, value, digitsWithin, digits}
 
 -- ---- the digits of a number below 10, and the last digit of any other
 

@@ -11,11 +11,11 @@ use lib.ListN.{length, drop, getD, set, drop-of-length-le}
 use lib.Seq.{drop-cons}
 use borrow.Author.Tests.{le-leb, lt-leb, ne-eqb}
 use Rattle.text.specs.Text.{all}
+use Rattle.text.proofs.Lists.{drop-set-same}
 use Rattle.decimal.specs.Decimal.{isDigit, isUnsigned, valueFrom, digits}
 use Rattle.decimal.specs.DecimalSteps.{upTo}
 use Rattle.decimal.specs.declared.reader.Limited.the-variants.{Outside, Value}
 use Rattle.decimal.proofs.DecimalLaws.{digits-small, digits-step, length-small, length-step, length-pos}
-use Rattle.text.proofs.Lists.{drop-set-same}
 
 -- ---- an unsigned decimal, by its first byte
 

@@ -10,11 +10,11 @@ use lib.Dec.{eqb}
 use lib.IntN.{ℤ, pos, negsuc, negℤ}
 use borrow.Author.Tests.{eqb-true, ne-eqb}
 use Rattle.text.specs.Text.{all}
+use Rattle.text.proofs.Tests.{both, either, from-within, to-within}
 use Rattle.decimal.specs.Decimal.{isDigit, isUnsigned, value, digits, isDecimal, decimalValue, decimalText}
 use Rattle.decimal.specs.Numerals.{Numeral, malformed, outside, number, inRange, numeral, least, greatest, signed, decimalAnswer, decimalReading, limited, limitedReading, limitedNumber, limitedValue}
 use Rattle.decimal.specs.declared.reader.Limited.{Limited}
 use Rattle.decimal.specs.declared.reader.Limited.the-variants.{Malformed, Outside, Value}
-use Rattle.text.proofs.Tests.{both, either, from-within, to-within}
 use Rattle.decimal.proofs.DecimalLaws.{digit-bounds, unsigned-cases, value-digits, digits-unsigned, digits-value}
 
 -- ---- texts

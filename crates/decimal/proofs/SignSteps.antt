@@ -16,14 +16,14 @@ use mir.Syntax.{w64}
 use mir.Val.{Fits, toZ, ofZ}
 use mir.ValLaws.{toZ-ofZ}
 use borrow.Author.Tests.{ltb-true, le-ltb, leb-true, le-leb, lt-leb, eq-eqb, ne-eqb}
+use Rattle.text.specs.Place.{over}
+use Rattle.text.proofs.Tests.{either}
 use Rattle.decimal.specs.Decimal.{isUnsigned, value, digits, isDecimal, decimalValue, decimalText}
 use Rattle.decimal.specs.Numerals.{Numeral, malformed, outside, number, inRange, numeral, least, signed}
 use Rattle.decimal.specs.DecimalSteps.{upTo, unsignedReading, plain, minus, complementOf}
-use Rattle.text.specs.Place.{over}
 use Rattle.decimal.specs.declared.reader.Limited.{Limited}
 use Rattle.decimal.specs.declared.reader.Limited.the-variants.{Malformed, Outside, Value}
 use Rattle.decimal.specs.declared.reader.Signed.the-variants.{Malformed as Signed·Malformed, Number}
-use Rattle.text.proofs.Tests.{either}
 
 -- ---- one operation at a time
 

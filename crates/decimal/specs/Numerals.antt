@@ -5,8 +5,8 @@ use mathlib.Core.Bool.{Bool, cond, _&&_}
 use mathlib.Core.List.{List}
 use lib.IntN.{ℤ, pos, negℤ, natAbs}
 use lib.Signed.{leZ}
-use Rattle.decimal.specs.Decimal.{isDecimal, decimalValue, decimalText}
 use Rattle.text.specs.Place.{Outcome, put}
+use Rattle.decimal.specs.Decimal.{isDecimal, decimalValue, decimalText}
 use Rattle.decimal.specs.declared.reader.Decimal.{Decimal}
 use Rattle.decimal.specs.declared.reader.Limited.{Limited}
 use Rattle.decimal.specs.declared.reader.Limited.the-variants.{Malformed as Limited·Malformed, Outside as Limited·Outside, Value}

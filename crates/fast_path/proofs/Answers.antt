@@ -17,14 +17,14 @@ use Rattle.profile.specs.Limits.{editionTwo}
 use Rattle.profile.specs.Fields.{FieldSet, writeBytes}
 use Rattle.profile.specs.Reader.{answer, fieldsOf}
 use Rattle.profile.specs.Entries.{kindOf, reading}
-use Rattle.fast_path.specs.Contents.{joinedBytes, counted, refusedContents, allDecoded, contents}
+use Rattle.profile.specs.declared.fields.Reading.{Reading}
 use Rattle.profile.proofs.Table.{edition-two-sound}
 use Rattle.profile.proofs.ReadLaws.{reading-number}
 use Rattle.profile.proofs.Claims.{entries-agree-two}
-use Rattle.profile.specs.declared.fields.Reading.{Reading}
-use Rattle.fast_path.specs.declared.contents.Contents.{Contents}
+use Rattle.fast_path.specs.Contents.{joinedBytes, counted, refusedContents, allDecoded, contents}
 use Rattle.fast_path.specs.Walk.{walked}
 use Rattle.fast_path.specs.WalkSteps.{kindFor, contentsOf, StoredAll, total, StoredIs}
+use Rattle.fast_path.specs.declared.contents.Contents.{Contents}
 use Rattle.fast_path.proofs.Found.{walk-sound}
 use Rattle.fast_path.proofs.Walked.{walk-agrees}
 

@@ -10,6 +10,7 @@ use lib.ListN.{length, take, drop, getD}
 use lib.Seq.{drop-drop}
 use borrow.Author.Tests.{le-leb, lt-leb, ne-eqb}
 use Rattle.text.specs.Text.{text, find, nextAt, startsWith, andThen}
+use Rattle.text.proofs.Prefixes.{rest-at}
 use Rattle.profile.specs.Limits.{Profile, limitsOf, inRange, idOf, profileOf}
 use Rattle.profile.specs.declared.limits.NumberRule.{NumberRule}
 use Rattle.profile.specs.declared.limits.BytesRule.{BytesRule}
@@ -18,7 +19,6 @@ use Rattle.profile.specs.declared.fields.Version.{Version}
 use Rattle.profile.specs.declared.fields.Version.the-variants.{Absent, Number}
 use Rattle.profile.specs.declared.fields.Fields.{Fields}
 use Rattle.fast_path.specs.Walk.{Taken, taken, numeralIn, isWritten, writtenNumber, leftOut, numberIn, writtenBytes, bytesIn, allowed, versionIn, numbersIn, headIn, withStrings, afterId, walked}
-use Rattle.text.proofs.Prefixes.{rest-at}
 
 -- ---- a number
 

@@ -9,6 +9,9 @@ use lib.Dec.{leb, eqb}
 use lib.ListN.{take, drop, take-append-drop}
 use borrow.Author.Tests.{leb-true}
 use Rattle.text.specs.Text.{text, all, empty, find, isByte, startsWith}
+use Rattle.text.proofs.Starts.{starts-is}
+use Rattle.text.proofs.Options.{Holds, holds-then, holds-map, holds-if}
+use Rattle.text.proofs.Lists.{empty-nil}
 use Rattle.profile.specs.Limits.{Profile, limitsOf, inRange, versionAllowed, idOf, profileOf}
 use Rattle.profile.specs.Fields.{FieldSet, fieldSet, writeBytes, writeVersion}
 use Rattle.profile.specs.Sound.{soundNumber, sound}
@@ -21,11 +24,8 @@ use Rattle.profile.proofs.Texts.{formatted-is}
 use Rattle.profile.proofs.Kept.{Kept, here, permitted-of}
 use Rattle.profile.proofs.Table.{Entry, entry-at, name-of}
 use Rattle.fast_path.specs.Walk.{Taken, versionIn, numbersIn, Pair, pairIn, keysIn, hashesIn, headIn, afterId, walked}
-use Rattle.text.proofs.Starts.{starts-is}
 use Rattle.fast_path.proofs.ItemTexts.{items, Stands, stands-append, costItems, keyItems, fiveItems, hashesText, restText, pieces-row}
 use Rattle.fast_path.proofs.Stands.{number-then, bytes-then, VersionStands, version-stands}
-use Rattle.text.proofs.Options.{Holds, holds-then, holds-map, holds-if}
-use Rattle.text.proofs.Lists.{empty-nil}
 
 -- ---- the numbers, and the byte strings two by two
 

@@ -7,13 +7,13 @@ use mathlib.Core.Option.{none, some}
 use mathlib.Core.Path.{_≡_, refl, _∙_, ap}
 use lib.Dec.{eqb}
 use Rattle.text.specs.Text.{text, all, has, startsWith}
-use Rattle.grammar.specs.Pieces.{Slot}
 use Rattle.text.proofs.Tests.{both}
+use Rattle.text.proofs.Starts.{starts-without, Begins, differ, starts-differ}
+use Rattle.grammar.specs.Pieces.{Slot}
 use Rattle.profile.specs.Fields.{FieldSet, writeNumber, writeBytes, writeVersion}
 use Rattle.profile.specs.PieceTexts.{tagged, itemsText, dollared, piecesText}
 use Rattle.profile.specs.declared.fields.Fields.{Fields}
 use Rattle.profile.specs.declared.limits.Limits.{Limits}
-use Rattle.text.proofs.Starts.{starts-without, Begins, differ, starts-differ}
 use Rattle.fast_path.proofs.Closed.{Separator, Closed}
 
 -- a name with its equals sign, and the text that stands behind it

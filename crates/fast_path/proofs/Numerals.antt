@@ -11,13 +11,13 @@ use lib.Dec.{leb}
 use lib.ListN.{length, drop, getD, length-drop}
 use lib.Seq.{drop-drop, getD-drop}
 use borrow.Author.Tests.{le-leb, lt-leb, eq-eqb, ne-eqb}
-use Rattle.decimal.specs.Decimal.{isDigit, isUnsigned, valueFrom, value}
 use Rattle.text.proofs.Tests.{to-within}
+use Rattle.text.proofs.Runs.{run-go, run-stop, run-past, run-all, run-length, run-first}
+use Rattle.decimal.specs.Decimal.{isDigit, isUnsigned, valueFrom, value}
 use Rattle.decimal.proofs.DigitSteps.{unsigned-none, unsigned-zero, unsigned-other, value-grows}
 use Rattle.profile.specs.Limits.{largest32}
 use Rattle.fast_path.specs.Walk.{numeralIn}
 use Rattle.fast_path.specs.WalkSteps.{digitsAt, Counted}
-use Rattle.text.proofs.Runs.{run-go, run-stop, run-past, run-all, run-length, run-first}
 
 no-digit : isDigit 0 ≡ false
 unfolding isDigit

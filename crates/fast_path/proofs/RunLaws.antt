@@ -11,15 +11,15 @@ use lib.ListN.{length, drop, getD, length-drop, List·getD-eq-default}
 use borrow.Author.Tests.{lt-ltb, le-ltb, eq-eqb}
 use Rattle.text.specs.Text.{within}
 use Rattle.text.specs.Place.{over}
-use Rattle.b64.specs.B64.{sextet, inAlphabet, canonical, decode, groupOf}
 use Rattle.text.proofs.Tests.{from-within}
 use Rattle.text.proofs.Over.{over-nil, over-over, length-over}
+use Rattle.text.proofs.Runs.{run-go, run-stop, run-length}
+use Rattle.b64.specs.B64.{sextet, inAlphabet, canonical, decode, groupOf}
 use Rattle.b64.proofs.B64Laws.{grouped, pair, triple, canonical-grouped, length-decode}
 use Rattle.b64.proofs.B64Code.{group-past, group-bits}
 use Rattle.fast_path.specs.WalkSteps.{three, two, one, textAt, bytesAt, Reached, Stopped, Ran, RunIs}
 use Rattle.fast_path.specs.declared.run.Run.{Run}
 use Rattle.fast_path.specs.declared.run.Run.the-variants.{No, To}
-use Rattle.text.proofs.Runs.{run-go, run-stop, run-length}
 
 -- ---- sextets
 

@@ -10,11 +10,14 @@ use lib.Dec.{leb, eqb}
 use lib.ListN.{length, drop}
 use borrow.Author.Tests.{eq-eqb}
 use Rattle.text.specs.Text.{text, within, all, empty, isByte, run, startsWith, andThen}
-use Rattle.decimal.specs.Decimal.{isDigit, isUnsigned, value, digits}
-use Rattle.b64.specs.B64.{inAlphabet, canonical, decode, encode}
 use Rattle.text.proofs.Tests.{both, is-false, to-within}
-use Rattle.decimal.proofs.DecimalLaws.{digits-value}
+use Rattle.text.proofs.Runs.{run-is}
+use Rattle.text.proofs.Starts.{starts-behind}
+use Rattle.text.proofs.Options.{Holds, holds-then, holds-if}
+use Rattle.b64.specs.B64.{inAlphabet, canonical, decode, encode}
 use Rattle.b64.proofs.B64Laws.{encode-decode, bytes-decode}
+use Rattle.decimal.specs.Decimal.{isDigit, isUnsigned, value, digits}
+use Rattle.decimal.proofs.DecimalLaws.{digits-value}
 use Rattle.profile.specs.Limits.{Profile, inRange, isSize, versionAllowed, largest32}
 use Rattle.profile.specs.Fields.{writeNumber, writeBytes, writeVersion}
 use Rattle.profile.specs.Sound.{soundNumber}
@@ -26,10 +29,7 @@ use Rattle.profile.specs.declared.limits.BytesRule.{BytesRule}
 use Rattle.profile.specs.declared.fields.Version.{Version}
 use Rattle.profile.specs.declared.fields.Version.the-variants.{Absent, Number}
 use Rattle.fast_path.specs.Walk.{Taken, numeralIn, isWritten, writtenNumber, leftOut, numberIn, bytesIn, allowed, versionIn}
-use Rattle.text.proofs.Runs.{run-is}
-use Rattle.text.proofs.Starts.{starts-behind}
 use Rattle.fast_path.proofs.ItemTexts.{Stands}
-use Rattle.text.proofs.Options.{Holds, holds-then, holds-if}
 
 -- ---- one number
 

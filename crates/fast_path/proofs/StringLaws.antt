@@ -11,23 +11,23 @@ use lib.ListN.{length, drop, length-drop, length-append}
 use lib.Seq.{drop-drop, drop-length}
 use borrow.Author.Tests.{lt-leb}
 use Rattle.text.specs.Text.{empty, startsWith}
-use Rattle.b64.specs.B64.{inAlphabet, canonical}
 use Rattle.text.specs.Place.{over}
 use Rattle.text.proofs.Tests.{from-within}
 use Rattle.text.proofs.Over.{over-nil, length-over, over-after}
+use Rattle.text.proofs.Runs.{run-length}
+use Rattle.text.proofs.Lists.{length-empty, length-filled}
+use Rattle.b64.specs.B64.{inAlphabet, canonical}
 use Rattle.profile.specs.Limits.{isSize, limitsOf, profileOf, editionTwo}
 use Rattle.profile.specs.Fields.{FieldSet, fieldSet}
 use Rattle.profile.specs.declared.limits.BytesRule.{BytesRule}
 use Rattle.profile.specs.declared.limits.BytesRule.the-variants.{Sized, Barred}
 use Rattle.profile.specs.declared.limits.Limits.{Limits}
 use Rattle.profile.specs.declared.fields.Fields.{Fields}
-use Rattle.fast_path.specs.declared.contents.Contents.{Contents}
 use Rattle.fast_path.specs.Walk.{Taken, taken, writtenBytes, bytesIn, Pair, pairIn, keysIn, hashesIn, withStrings}
 use Rattle.fast_path.specs.WalkSteps.{textAt, bytesAt, Ran, most, Stored, StoredTwo, contentsFor, roomy, StoredAll}
 use Rattle.fast_path.specs.Claims.{mostBytes}
-use Rattle.text.proofs.Runs.{run-length}
+use Rattle.fast_path.specs.declared.contents.Contents.{Contents}
 use Rattle.fast_path.proofs.Chains.{bytes-absent}
-use Rattle.text.proofs.Lists.{length-empty, length-filled}
 
 -- ---- one byte string
 

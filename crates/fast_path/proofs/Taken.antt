@@ -12,13 +12,15 @@ use lib.ListN.{length}
 use lib.Seq.{drop-at}
 use borrow.Author.Tests.{eqb-true, leb-true, le-leb}
 use Rattle.text.specs.Text.{text, within, all, empty, isByte, run, startsWith, andThen}
-use Rattle.decimal.specs.Decimal.{isDigit, isUnsigned, digits}
-use Rattle.b64.specs.B64.{sextet, inAlphabet, encode}
-use Rattle.grammar.specs.Limits.{largestVersion}
 use Rattle.text.proofs.Tests.{both, from-within}
 use Rattle.text.proofs.Lists.{all-has}
-use Rattle.decimal.proofs.DecimalLaws.{unsigned-cases, value-digits, digits-unsigned}
+use Rattle.text.proofs.Runs.{run-on}
+use Rattle.text.proofs.Starts.{behind-tag}
+use Rattle.b64.specs.B64.{sextet, inAlphabet, encode}
 use Rattle.b64.proofs.B64Laws.{canonical-alphabet, decode-encode, canonical-encode}
+use Rattle.decimal.specs.Decimal.{isDigit, isUnsigned, digits}
+use Rattle.decimal.proofs.DecimalLaws.{unsigned-cases, value-digits, digits-unsigned}
+use Rattle.grammar.specs.Limits.{largestVersion}
 use Rattle.profile.specs.Limits.{Profile, inRange, versionAllowed, largest32}
 use Rattle.profile.specs.Fields.{writeNumber, writeBytes, writeVersion}
 use Rattle.profile.specs.Sound.{soundNumber, soundVersions}
@@ -30,8 +32,6 @@ use Rattle.profile.specs.declared.limits.BytesRule.{BytesRule}
 use Rattle.profile.specs.declared.fields.Version.{Version}
 use Rattle.profile.specs.declared.fields.Version.the-variants.{Absent, Number}
 use Rattle.fast_path.specs.Walk.{taken, numeralIn, isWritten, writtenNumber, leftOut, numberIn, writtenBytes, bytesIn, allowed, versionIn}
-use Rattle.text.proofs.Runs.{run-on}
-use Rattle.text.proofs.Starts.{behind-tag}
 use Rattle.fast_path.proofs.Closed.{Separator, Closed, run-closed}
 use Rattle.fast_path.proofs.ItemTexts.{Named, separatorAfter, items, separator-after, fresh, Behind, closed-items, starts-fresh}
 

@@ -10,9 +10,10 @@ use lib.ListN.{length}
 use lib.Seq.{take-at, drop-at}
 use borrow.Author.Tests.{le-leb, eqb-true, eq-eqb}
 use Rattle.text.specs.Text.{text, all, has, empty, isByte, startsWith}
-use Rattle.grammar.specs.Bytes.{isNameByte, isValueByte}
-use Rattle.b64.specs.B64.{sextet, inAlphabet, encode}
 use Rattle.text.proofs.Lists.{not-in, has-append}
+use Rattle.text.proofs.Starts.{Begins, find-behind}
+use Rattle.b64.specs.B64.{sextet, inAlphabet, encode}
+use Rattle.grammar.specs.Bytes.{isNameByte, isValueByte}
 use Rattle.grammar.proofs.ItemLaws.{name-free}
 use Rattle.profile.specs.Limits.{Profile, limitsOf}
 use Rattle.profile.specs.Fields.{FieldSet, writeNumber, writeBytes, writeVersion}
@@ -27,7 +28,6 @@ use Rattle.profile.proofs.Table.{Entry, entry-at, known-id}
 use Rattle.profile.proofs.Written.{written}
 use Rattle.profile.proofs.Accepted.{accepted}
 use Rattle.fast_path.specs.Walk.{taken, versionIn, numbersIn, pairIn, keysIn, hashesIn, headIn, afterId, walked, WalkAgrees}
-use Rattle.text.proofs.Starts.{Begins, find-behind}
 use Rattle.fast_path.proofs.Closed.{Separator}
 use Rattle.fast_path.proofs.ItemTexts.{Named, separatorAfter, items, separators, begins-tagged, begins-items, separator-after, separators-separator, Behind, closed-items, starts-fresh, costItems, keyItems, fiveItems, hashesText, restText, pieces-row}
 use Rattle.fast_path.proofs.Taken.{encode-alphabet, bytes-reads, version-reads, number-item, bytes-item}

@@ -9,8 +9,8 @@ use mathlib.Core.Option.{Option, none, some}
 use lib.Dec.{leb, eqb}
 use lib.ListN.{length, take, drop}
 use Rattle.text.specs.Text.{text, empty, find, run, startsWith, andThen}
-use Rattle.decimal.specs.Decimal.{isDigit, isUnsigned, value}
 use Rattle.b64.specs.B64.{inAlphabet, canonical, decode}
+use Rattle.decimal.specs.Decimal.{isDigit, isUnsigned, value}
 use Rattle.profile.specs.Limits.{Profile, limitsOf, inRange, isSize, versionAllowed, idOf, profileOf, largest32}
 use Rattle.profile.specs.Fields.{FieldSet, fieldSet}
 use Rattle.profile.specs.Reader.{answer, fieldsOf}

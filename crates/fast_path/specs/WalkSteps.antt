@@ -8,19 +8,19 @@ use mathlib.Core.List.{List, [], _∷_, _++_}
 use mathlib.Core.Option.{Option, none, some}
 use lib.Dec.{eqb}
 use lib.ListN.{length, take, drop}
-use Rattle.decimal.specs.Decimal.{isDigit, value}
-use Rattle.b64.specs.B64.{inAlphabet, canonical, decode}
 use Rattle.text.specs.Place.{over, put}
+use Rattle.text.specs.Text.{run}
+use Rattle.b64.specs.B64.{inAlphabet, canonical, decode}
+use Rattle.decimal.specs.Decimal.{isDigit, value}
 use Rattle.profile.specs.Fields.{FieldSet}
-use Rattle.fast_path.specs.Contents.{joinedBytes, refusedContents}
 use Rattle.profile.specs.declared.limits.BytesRule.{BytesRule}
 use Rattle.profile.specs.declared.limits.BytesRule.the-variants.{Sized, Barred}
 use Rattle.profile.specs.declared.limits.Limits.{Limits}
 use Rattle.profile.specs.declared.fields.Version.{Version}
 use Rattle.profile.specs.declared.fields.Fields.{Fields}
-use Rattle.fast_path.specs.declared.contents.Contents.{Contents}
+use Rattle.fast_path.specs.Contents.{joinedBytes, refusedContents}
 use Rattle.fast_path.specs.Walk.{Taken, taken, numeralIn, Pair}
-use Rattle.text.specs.Text.{run}
+use Rattle.fast_path.specs.declared.contents.Contents.{Contents}
 use Rattle.fast_path.specs.declared.numeral.Numeral.{Numeral}
 use Rattle.fast_path.specs.declared.numeral.Numeral.the-variants.{No as Numeral·No, Is as Numeral·Is}
 use Rattle.fast_path.specs.declared.run.Run.{Run}

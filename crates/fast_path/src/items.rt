@@ -13,9 +13,9 @@ ghost use Prim.Native.Nat.{ℕ, _+_, _≤_};
 ghost use mathlib.Core.Path.{_≡_};
 ghost use mathlib.Core.List.{List};
 ghost use lib.ListN.{length, drop};
+ghost use Rattle.text.specs.Text.{andThen};
 ghost use Rattle.b64.specs.B64.{Sextets};
 ghost use Rattle.fast_path.specs.Walk.{numeralIn, isWritten, writtenNumber, leftOut, numberIn, writtenBytes, bytesIn};
-ghost use Rattle.text.specs.Text.{andThen};
 ghost use Rattle.fast_path.specs.WalkSteps.{NumberIs, most, BytesAre};
 
 // The number, the place after its item, and the separator before the next.

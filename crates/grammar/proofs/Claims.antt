@@ -1,14 +1,14 @@
 -- The claims of specs/Claims.antt, proved.
 -- Assumes nothing.
 use mathlib.Core.Path.{refl}
-use Rattle.grammar.specs.Bytes.{isNameByte, isValueByte, isText}
-use Rattle.decimal.specs.Decimal.{isDigit, isUnsigned, valueFrom, value, isDecimal, decimalValue}
+use Rattle.text.proofs.Lists.{split-join}
 use Rattle.b64.specs.B64.{sextet, lowBitsZero, canonical}
+use Rattle.decimal.specs.Decimal.{isDigit, isUnsigned, valueFrom, value, isDecimal, decimalValue}
 use Rattle.decimal.specs.Numerals.{numeral, limitedReading}
+use Rattle.grammar.specs.Bytes.{isNameByte, isValueByte, isText}
 use Rattle.grammar.specs.Pieces.{pieces}
 use Rattle.grammar.specs.Rules.{isItem, isParams, isVersion, isOutput, badWhole, grammarNumber}
 use Rattle.grammar.specs.Claims.{PieceClaims}
-use Rattle.text.proofs.Lists.{split-join}
 use Rattle.grammar.proofs.PieceLaws.{string-pieces, pieces-string}
 use Rattle.grammar.proofs.ItemLaws.{params-items, items-params}
 use Rattle.grammar.proofs.Reading.{piece-part}

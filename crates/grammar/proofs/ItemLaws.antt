@@ -10,14 +10,14 @@ use borrow.Author.Tests.{le-leb, lt-leb}
 use lib.Dec.{leb, eqb}
 use lib.ListN.{length, getD, take, drop}
 use Rattle.text.specs.Text.{text, within, all, has, same, empty, Parts, find, split, join, cut, partsFrom, Frees}
+use Rattle.text.proofs.Tests.{both}
+use Rattle.text.proofs.Lists.{not-in, has-append, join-split, split-join, cut-join, join-cut}
+use Rattle.text.proofs.Splitting.{from-to, from-zero}
 use Rattle.grammar.specs.Bytes.{isNameByte, isValueByte, isText}
 use Rattle.grammar.specs.Pieces.{Slot}
 use Rattle.grammar.specs.Items.{Item, itemText, items, itemsOf, paramsText}
 use Rattle.grammar.specs.Limits.{mostItems}
 use Rattle.grammar.specs.Rules.{isName, isValue, isItem, isParams}
-use Rattle.text.proofs.Tests.{both}
-use Rattle.text.proofs.Lists.{not-in, has-append, join-split, split-join, cut-join, join-cut}
-use Rattle.text.proofs.Splitting.{from-to, from-zero}
 
 -- ---- from a place on
 

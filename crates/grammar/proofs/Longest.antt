@@ -10,25 +10,25 @@ use lib.Dec.{leb, eqb}
 use lib.ListN.{length, length-append}
 use borrow.Author.Tests.{leb-true}
 use Rattle.text.specs.Text.{within, all, split, cut, listOf, broken}
-use Rattle.grammar.specs.Bytes.{inClass, isText}
+use Rattle.text.specs.Rows.{firstOf}
+use Rattle.text.proofs.Tests.{both, is-true, from-within}
+use Rattle.text.proofs.Rows.{Clear, clear}
+use Rattle.text.proofs.Joining.{total, join-length, total-none}
 use Rattle.b64.specs.B64.{canonical}
 use Rattle.decimal.specs.Decimal.{isDecimal, digits}
 use Rattle.decimal.specs.Numerals.{numeral, limitedReading, limitedNumber}
+use Rattle.decimal.specs.declared.reader.Limited.{Limited}
+use Rattle.decimal.specs.declared.reader.Limited.the-variants.{Malformed, Outside, Value}
+use Rattle.decimal.proofs.DecimalLaws.{length-digits}
+use Rattle.decimal.proofs.NumeralLaws.{digits-limited}
+use Rattle.grammar.specs.Bytes.{inClass, isText}
 use Rattle.grammar.specs.Limits.{longestString}
 use Rattle.grammar.specs.Pieces.{Slot, Pieces, pieces, slotOf, afterId, string}
 use Rattle.grammar.specs.Items.{Item, itemText, items}
 use Rattle.grammar.specs.Rules.{isName, isValue, isItem, isParams, isVersion, isOutput, ruleOf, pieceRows, grammarNumber}
-use Rattle.text.specs.Rows.{firstOf}
 use Rattle.grammar.specs.declared.classes.Class.{Class}
-use Rattle.decimal.specs.declared.reader.Limited.{Limited}
-use Rattle.decimal.specs.declared.reader.Limited.the-variants.{Malformed, Outside, Value}
 use Rattle.grammar.specs.declared.places.Piece.{Piece}
 use Rattle.grammar.specs.declared.places.Piece.the-variants.{Id, Version, Params, Salt, Output}
-use Rattle.text.proofs.Tests.{both, is-true, from-within}
-use Rattle.text.proofs.Rows.{Clear, clear}
-use Rattle.decimal.proofs.DecimalLaws.{length-digits}
-use Rattle.decimal.proofs.NumeralLaws.{digits-limited}
-use Rattle.text.proofs.Joining.{total, join-length, total-none}
 use Rattle.grammar.proofs.ItemLaws.{item-name, item-value, join-items}
 use Rattle.grammar.proofs.Reading.{accepted-rows}
 

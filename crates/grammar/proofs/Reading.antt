@@ -10,18 +10,18 @@ use borrow.Author.Tests.{ne-eqb, eqb-true, le-leb, lt-leb}
 use lib.Dec.{leb, eqb}
 use lib.ListN.{length, getD}
 use Rattle.text.specs.Text.{empty, parts, cut}
+use Rattle.text.specs.Rows.{firstOf}
+use Rattle.text.proofs.Tests.{neither, is-true}
+use Rattle.text.proofs.Rows.{Clear, clear}
 use Rattle.grammar.specs.Pieces.{Slot, pieces, slotOf}
 use Rattle.grammar.specs.Items.{Item, itemsOf}
 use Rattle.grammar.specs.Limits.{longestString}
 use Rattle.grammar.specs.Rules.{starts, badWhole, pieceRows, grammarRows, grammarNumber}
-use Rattle.text.specs.Rows.{firstOf}
 use Rattle.grammar.specs.Layout.{span, noPlaces, placesOf, spanOf, refusedLayout, acceptedLayout, layout}
 use Rattle.grammar.specs.Parts.{partAt, textOf, pieceText, itemAt}
 use Rattle.grammar.specs.declared.places.Piece.{Piece}
 use Rattle.grammar.specs.declared.places.Piece.the-variants.{Id, Version, Params, Salt, Output}
 use Rattle.grammar.specs.declared.places.Span.{Span}
-use Rattle.text.proofs.Tests.{neither, is-true}
-use Rattle.text.proofs.Rows.{Clear, clear}
 use Rattle.grammar.proofs.Spans.{Holds, part-empty, spans}
 use Rattle.grammar.proofs.ItemLaws.{item-at}
 

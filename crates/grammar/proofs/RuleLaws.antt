@@ -10,13 +10,13 @@ use lib.ListN.{length, drop}
 use Rattle.text.specs.Text.{broken}
 use Rattle.decimal.specs.Decimal.{isDecimal}
 use Rattle.decimal.specs.Numerals.{numeral, limitedReading, limitedNumber}
+use Rattle.decimal.specs.declared.reader.Limited.{Limited}
 use Rattle.grammar.specs.Limits.{largestVersion}
 use Rattle.grammar.specs.Pieces.{pieces, slotOf}
 use Rattle.grammar.specs.Items.{items, itemsOf}
 use Rattle.grammar.specs.Rules.{isVersion, ruleOf, starts}
 use Rattle.grammar.specs.Layout.{placesOf, spanOf}
 use Rattle.grammar.specs.Parts.{partAt}
-use Rattle.decimal.specs.declared.reader.Limited.{Limited}
 use Rattle.grammar.specs.declared.places.Piece.{Piece}
 use Rattle.grammar.specs.declared.places.Piece.the-variants.{Params}
 use Rattle.grammar.specs.declared.places.Span.{Span}

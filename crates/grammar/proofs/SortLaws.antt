@@ -10,6 +10,8 @@ use lib.Dec.{leb, eqb}
 use lib.ListN.{length, getD, take, drop, length-drop}
 use lib.Seq.{length-take-le}
 use Rattle.text.specs.Text.{find, empty, split, parts, headIf, tailIf, partsFrom}
+use Rattle.text.proofs.Scanning.{find-from-le}
+use Rattle.text.proofs.Splitting.{from-to, from-past, some-from}
 use Rattle.grammar.specs.Pieces.{isVersionPiece, belongs, afterFirst, pieces}
 use Rattle.grammar.specs.Rules.{starts}
 use Rattle.grammar.specs.Layout.{span, spanFrom, past}
@@ -18,8 +20,6 @@ use Rattle.grammar.specs.declared.places.Piece.{Piece}
 use Rattle.grammar.specs.declared.places.Piece.the-variants.{Id, Version, Params, Salt, Output}
 use Rattle.grammar.specs.declared.places.Span.{Span}
 use Rattle.grammar.specs.declared.sorting.Sorted.{Sorted}
-use Rattle.text.proofs.Scanning.{find-from-le}
-use Rattle.text.proofs.Splitting.{from-to, from-past, some-from}
 
 module _ (s : List ℕ) (w : Piece) (at : ℕ) where
   pub stepped-past : length s < at → Stepped s w at (span 0 0) at

@@ -11,6 +11,9 @@ use lib.Dec.{leb}
 use lib.ListN.{length, take, drop, length-drop}
 use lib.Seq.{length-take-le}
 use Rattle.text.specs.Text.{find, split, headIf, tailIf, listOf, partsFrom}
+use Rattle.text.proofs.Lists.{head-tail}
+use Rattle.text.proofs.Scanning.{find-from-le}
+use Rattle.text.proofs.Splitting.{from-step, from-past}
 use Rattle.grammar.specs.Pieces.{Slot, belongs, afterFirst, pieces, slotOf}
 use Rattle.grammar.specs.Rules.{starts}
 use Rattle.grammar.specs.Layout.{span, spanFrom, past, placesOf, spanOf}
@@ -18,9 +21,6 @@ use Rattle.grammar.specs.Parts.{partAt}
 use Rattle.grammar.specs.declared.places.Piece.{Piece}
 use Rattle.grammar.specs.declared.places.Piece.the-variants.{Id, Version, Params, Salt, Output}
 use Rattle.grammar.specs.declared.places.Span.{Span}
-use Rattle.text.proofs.Lists.{head-tail}
-use Rattle.text.proofs.Scanning.{find-from-le}
-use Rattle.text.proofs.Splitting.{from-step, from-past}
 use Rattle.grammar.proofs.SortLaws.{parts-after-first}
 
 -- a span and a piece that may not be there: the part is the piece, and the place is 0 exactly where it is absent

@@ -7,11 +7,11 @@ use mathlib.Core.List.{List, [], _∷_, _++_}
 use mathlib.Core.Option.{some}
 use lib.ListN.{length, replicate}
 use Rattle.text.specs.Text.{text, has, all, split, join, Frees, Fits, listOf}
+use Rattle.text.specs.Rows.{firstOf}
 use Rattle.grammar.specs.Limits.{longestName, longestValue, longestOutput, mostItems, longestString}
 use Rattle.grammar.specs.Pieces.{Pieces, belongs, pieces, slotOf, afterId, string}
 use Rattle.grammar.specs.Items.{Item, items, itemsOf, paramsText}
 use Rattle.grammar.specs.Rules.{isItem, starts, pieceRows, grammarNumber}
-use Rattle.text.specs.Rows.{firstOf}
 use Rattle.grammar.specs.Layout.{placesOf, spanOf}
 use Rattle.grammar.specs.Parts.{partAt, textOf}
 use Rattle.grammar.specs.declared.places.Piece.{Piece}

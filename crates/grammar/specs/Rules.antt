@@ -7,9 +7,9 @@ use lib.Dec.{leb, eqb}
 use lib.ListN.{length, drop}
 use Rattle.text.specs.Text.{text, within, all, same, empty, broken}
 use Rattle.text.specs.Rows.{Row, row, firstOf}
-use Rattle.grammar.specs.Bytes.{isText}
 use Rattle.b64.specs.B64.{canonical}
 use Rattle.decimal.specs.Numerals.{limitedReading, limitedNumber}
+use Rattle.grammar.specs.Bytes.{isText}
 use Rattle.grammar.specs.Limits.{longestName, longestValue, longestOutput, mostItems, largestVersion, longestString}
 use Rattle.grammar.specs.Pieces.{Pieces, pieces}
 use Rattle.grammar.specs.Items.{Item, items}

@@ -20,10 +20,10 @@ ghost use mathlib.Core.Path.{_≡_};
 ghost use mathlib.Core.Bool.{true};
 ghost use lib.ListN.{length};
 ghost use Rattle.text.specs.Text.{broken};
+ghost use Rattle.text.specs.Rows.{firstOf};
 ghost use Rattle.grammar.specs.Pieces.{pieces, slotOf};
 ghost use Rattle.grammar.specs.Items.{itemsOf};
 ghost use Rattle.grammar.specs.Rules.{isVersion, isOutput, ruleOf, starts, badWhole, pieceRows};
-ghost use Rattle.text.specs.Rows.{firstOf};
 ghost use Rattle.grammar.specs.Layout.{placesOf};
 ghost use Rattle.grammar.specs.SortingSteps.{sortedOf};
 

@@ -8,20 +8,20 @@ use native.Mathlib.Omega.{arith}
 use lib.ListN.{length}
 use borrow.Author.Tests.{ne-eqb}
 use Rattle.text.specs.Place.{putAfter}
+use Rattle.text.proofs.Writing.{after-number}
 use Rattle.profile.specs.Limits.{profileOf, editionTwo, versionAllowed}
 use Rattle.profile.specs.Reader.{answer, fieldsOf}
 use Rattle.profile.specs.Writer.{refusal}
 use Rattle.profile.specs.Entries.{reading}
-use Rattle.fast_path.specs.Contents.{joinedBytes}
 use Rattle.profile.specs.declared.fields.Version.the-variants.{Number}
 use Rattle.profile.proofs.ReadLaws.{reading-number}
+use Rattle.fast_path.specs.Contents.{joinedBytes}
 use Rattle.fast_path.specs.Claims.{mostBytes}
 use Rattle.fast_path.proofs.Claims.{fast-path-agrees}
 use Rattle.phc.specs.Records.{wholeLength, recordedWhole}
 use Rattle.phc.specs.Writing.{handed}
 use Rattle.phc.specs.Claims.{PhcClaims}
 use Rattle.phc.proofs.WholeLaws.{fits-number}
-use Rattle.text.proofs.Writing.{after-number}
 
 -- no profile permits the version 0
 no-version-0 : (k : ℕ) → versionAllowed (profileOf editionTwo k) (Number 0) ≡ false

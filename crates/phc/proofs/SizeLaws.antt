@@ -6,8 +6,8 @@ use mathlib.Core.Path.{_≡_}
 use native.Mathlib.Omega.{arith}
 use lib.ListN.{length}
 use Rattle.text.specs.Place.{outcome}
-use Rattle.b64.proofs.B64Laws.{length-encode}
 use Rattle.text.proofs.Writing.{after-counted}
+use Rattle.b64.proofs.B64Laws.{length-encode}
 use Rattle.profile.specs.Limits.{editionTwo, room}
 use Rattle.profile.specs.Fields.{FieldSet, chosen, writeBytes}
 use Rattle.profile.specs.Reader.{answer, fieldsOf}

@@ -13,8 +13,8 @@ use Rattle.text.proofs.Writing.{put-refused, put-clear, put-full, put-done, aft
 use Rattle.profile.specs.Limits.{editionTwo}
 use Rattle.profile.specs.Reader.{answer, fieldsOf}
 use Rattle.profile.specs.Entries.{reading}
-use Rattle.fast_path.specs.Contents.{joinedBytes, counted, refusedContents, allDecoded, contents}
 use Rattle.profile.proofs.ReadLaws.{reading-number}
+use Rattle.fast_path.specs.Contents.{joinedBytes, counted, refusedContents, allDecoded, contents}
 use Rattle.fast_path.specs.declared.contents.Contents.{Contents}
 use Rattle.phc.specs.Records.{recordBytes, countBytes, wholeLength, whole, recordedWhole}
 

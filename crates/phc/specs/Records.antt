@@ -8,10 +8,10 @@ use Rattle.text.specs.Place.{Outcome, putAfter}
 use Rattle.profile.specs.Limits.{editionTwo}
 use Rattle.profile.specs.Reader.{fieldsOf}
 use Rattle.profile.specs.Entries.{reading}
-use Rattle.fast_path.specs.Contents.{joinedBytes, counted}
 use Rattle.profile.specs.declared.fields.Version.{Version}
 use Rattle.profile.specs.declared.fields.Version.the-variants.{Absent, Number}
 use Rattle.profile.specs.declared.fields.Reading.{Reading}
+use Rattle.fast_path.specs.Contents.{joinedBytes, counted}
 use Rattle.fast_path.specs.declared.contents.Contents.{Contents}
 
 -- ---- the record

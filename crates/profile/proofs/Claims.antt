@@ -9,21 +9,21 @@ use lib.Dec.{leb}
 use lib.ListN.{length, replicate, length-append}
 use borrow.Author.Tests.{leb-true, le-leb, lt-leb}
 use Rattle.text.specs.Place.{Outcome, outcome, over}
-use Rattle.grammar.specs.Pieces.{Pieces, pieces}
+use Rattle.text.specs.Text.{every}
 use Rattle.text.proofs.Tests.{from-within, implied}
 use Rattle.text.proofs.Writing.{after-zero, after-done, over-same}
+use Rattle.grammar.specs.Pieces.{Pieces, pieces}
 use Rattle.profile.specs.Limits.{Profile, lowest, highest, profileOf, editionTwo, room}
 use Rattle.profile.specs.Fields.{FieldSet, chosen, writeBytes}
 use Rattle.profile.specs.Reader.{answer, fieldsOf}
 use Rattle.profile.specs.Writer.{OfBytes, Permitted, refusal, fieldPieces, formatted}
 use Rattle.profile.specs.Entries.{kindOf, reading, decoded, writing}
 use Rattle.profile.specs.Claims.{Demand3, WrittenAt, WrittenTo, Carries, CarrySame, EntriesDemand3, EntriesAgree, Lanes, Lengths}
+use Rattle.profile.specs.Sound.{sound}
 use Rattle.profile.specs.declared.fields.ByteString.{ByteString}
 use Rattle.profile.specs.declared.fields.ByteString.the-variants.{Keyid, Data, Salt, Output}
 use Rattle.profile.specs.declared.fields.Reading.{Reading}
 use Rattle.profile.proofs.ReadLaws.{reading-number}
-use Rattle.profile.specs.Sound.{sound}
-use Rattle.text.specs.Text.{every}
 use Rattle.profile.proofs.Table.{at-id, edition-two-sound}
 use Rattle.profile.proofs.Written.{pieces-of, written}
 use Rattle.profile.proofs.Accepted.{accepted}

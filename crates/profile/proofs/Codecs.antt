@@ -10,30 +10,30 @@ use lib.Dec.{leb, eqb}
 use lib.ListN.{length}
 use borrow.Author.Tests.{eqb-true, eq-eqb, leb-true}
 use Rattle.text.specs.Text.{within, all, empty, broken, isByte}
-use Rattle.grammar.specs.Bytes.{isValueByte, isText}
-use Rattle.b64.specs.Lengths.{charsOf}
-use Rattle.grammar.specs.Limits.{longestValue, largestVersion}
-use Rattle.decimal.specs.Decimal.{digits}
-use Rattle.decimal.specs.Numerals.{limitedReading, limitedNumber, limitedValue}
-use Rattle.b64.specs.B64.{canonical, decode, encode}
-use Rattle.grammar.specs.Pieces.{Slot, isVersionPiece}
-use Rattle.grammar.specs.Rules.{isValue, isVersion, isOutput}
-use Rattle.decimal.specs.declared.reader.Limited.{Limited}
-use Rattle.decimal.specs.declared.reader.Limited.the-variants.{Malformed, Outside, Value}
 use Rattle.text.proofs.Tests.{both, and-true, not-of-true, is-true, from-within, to-within}
 use Rattle.text.proofs.Lists.{all-append, all-has}
+use Rattle.b64.specs.Lengths.{charsOf}
+use Rattle.b64.specs.B64.{canonical, decode, encode}
+use Rattle.b64.proofs.B64Laws.{encode-decode, decode-encode, canonical-encode, bytes-decode, length-encode}
+use Rattle.decimal.specs.Decimal.{digits}
+use Rattle.decimal.specs.Numerals.{limitedReading, limitedNumber, limitedValue}
+use Rattle.decimal.specs.declared.reader.Limited.{Limited}
+use Rattle.decimal.specs.declared.reader.Limited.the-variants.{Malformed, Outside, Value}
 use Rattle.decimal.proofs.DecimalLaws.{by-tens, digits-small, digits-step, length-pos, length-digits}
 use Rattle.decimal.proofs.NumeralLaws.{limited-digits, digits-limited}
-use Rattle.b64.proofs.B64Laws.{encode-decode, decode-encode, canonical-encode, bytes-decode, length-encode}
+use Rattle.grammar.specs.Bytes.{isValueByte, isText}
+use Rattle.grammar.specs.Limits.{longestValue, largestVersion}
+use Rattle.grammar.specs.Pieces.{Slot, isVersionPiece}
+use Rattle.grammar.specs.Rules.{isValue, isVersion, isOutput}
 use Rattle.grammar.proofs.ValueBytes.{canonical-values}
-use Rattle.profile.specs.declared.limits.NumberRule.{NumberRule}
-use Rattle.profile.specs.declared.limits.NumberRule.the-variants.{Needed, Omitted, Fixed}
-use Rattle.profile.specs.declared.limits.BytesRule.{BytesRule}
-use Rattle.profile.specs.declared.limits.BytesRule.the-variants.{Sized, Barred}
 use Rattle.profile.specs.Limits.{Profile, inRange, versionAllowed, largest32}
 use Rattle.profile.specs.Fields.{isNumber, misplacedNumber, readNumber, writtenOut, writeNumber, misplacedBytes, isSized, isBytes, readBytes, writeBytes, readVersion, writeVersion}
 use Rattle.profile.specs.Writer.{bytesAllowed}
 use Rattle.profile.specs.Sound.{soundNumber, soundBytes, soundVersions}
+use Rattle.profile.specs.declared.limits.NumberRule.{NumberRule}
+use Rattle.profile.specs.declared.limits.NumberRule.the-variants.{Needed, Omitted, Fixed}
+use Rattle.profile.specs.declared.limits.BytesRule.{BytesRule}
+use Rattle.profile.specs.declared.limits.BytesRule.the-variants.{Sized, Barred}
 use Rattle.profile.specs.declared.fields.Version.{Version}
 use Rattle.profile.specs.declared.fields.Version.the-variants.{Absent, Number}
 

@@ -7,16 +7,16 @@ use mathlib.Core.List.{List}
 use mathlib.Core.Option.{none, some}
 use lib.Dec.{eqb}
 use Rattle.text.specs.Rows.{firstOf}
-use Rattle.grammar.specs.Parts.{partAt}
 use Rattle.decimal.specs.Numerals.{limitedValue}
+use Rattle.grammar.specs.Parts.{partAt}
 use Rattle.grammar.specs.declared.places.Span.{Span}
-use Rattle.profile.proofs.SlotLaws.{slot-some}
 use Rattle.profile.specs.Reader.{numberRow}
 use Rattle.profile.specs.Fields.{numberReading, misplacedNumber, readNumber, writtenOut, misplacedBytes}
 use Rattle.profile.specs.ReaderSteps.{slotIn}
 use Rattle.profile.specs.declared.limits.NumberRule.{NumberRule}
 use Rattle.profile.specs.declared.limits.NumberRule.the-variants.{Needed, Omitted, Fixed}
 use Rattle.profile.specs.declared.limits.BytesRule.the-variants.{Barred}
+use Rattle.profile.proofs.SlotLaws.{slot-some}
 
 -- a number that is there, and not misplaced
 read-there : (r : NumberRule) (t : List ℕ) → misplacedNumber r (some t) ≡ false → limitedValue (numberReading r t) ≡ readNumber r (some t)

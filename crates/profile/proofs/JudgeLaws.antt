@@ -7,10 +7,10 @@ use mathlib.Core.List.{List, _++_}
 use native.Mathlib.Omega.{arith}
 use borrow.Author.Tests.{ltb-true, ltb-false, lt-ltb, le-ltb}
 use lib.Dec.{ltb}
-use Rattle.grammar.specs.Pieces.{Slot}
 use Rattle.text.specs.Rows.{Row, firstOf}
 use Rattle.text.proofs.Tests.{three-false}
 use Rattle.text.proofs.Rows.{rows-stop}
+use Rattle.grammar.specs.Pieces.{Slot}
 use Rattle.profile.specs.Fields.{misplacedNumber, misplacedBytes}
 use Rattle.profile.specs.Reader.{slotAt, misplaced}
 use Rattle.profile.specs.ReaderSteps.{NumbersAre, Judged}

@@ -10,24 +10,24 @@ use lib.Dec.{leb, eqb}
 use lib.ListN.{length}
 use borrow.Author.Tests.{leb-true, eqb-true}
 use Rattle.text.specs.Text.{has, empty, every}
-use Rattle.b64.specs.Lengths.{charsOf}
-use Rattle.decimal.specs.Decimal.{digitsWithin, digits}
-use Rattle.grammar.specs.Limits.{longestString}
 use Rattle.text.specs.Place.{refused, putAfter}
 use Rattle.text.proofs.Tests.{both, from-within}
-use Rattle.decimal.proofs.DecimalLaws.{by-tens, length-small, length-step, length-pos}
+use Rattle.b64.specs.Lengths.{charsOf}
 use Rattle.b64.proofs.B64Laws.{length-encode}
+use Rattle.decimal.specs.Decimal.{digitsWithin, digits}
+use Rattle.decimal.proofs.DecimalLaws.{by-tens, length-small, length-step, length-pos}
+use Rattle.grammar.specs.Limits.{longestString}
 use Rattle.grammar.proofs.Reading.{whole-long}
-use Rattle.profile.specs.declared.limits.NumberRule.{NumberRule}
-use Rattle.profile.specs.declared.limits.NumberRule.the-variants.{Needed, Omitted, Fixed}
-use Rattle.profile.specs.declared.limits.BytesRule.{BytesRule}
-use Rattle.profile.specs.declared.limits.BytesRule.the-variants.{Sized, Barred}
 use Rattle.profile.specs.Limits.{Profile, inRange, versionAllowed, editionTwo, room}
 use Rattle.profile.specs.Fields.{FieldSet, writeNumber, writeBytes, writeVersion}
 use Rattle.profile.specs.Reader.{answer}
 use Rattle.profile.specs.Writer.{bytesAllowed, formatted}
 use Rattle.profile.specs.PieceTexts.{taggedLength}
 use Rattle.profile.specs.Entries.{reading, refusedReading, decoded}
+use Rattle.profile.specs.declared.limits.NumberRule.{NumberRule}
+use Rattle.profile.specs.declared.limits.NumberRule.the-variants.{Needed, Omitted, Fixed}
+use Rattle.profile.specs.declared.limits.BytesRule.{BytesRule}
+use Rattle.profile.specs.declared.limits.BytesRule.the-variants.{Sized, Barred}
 use Rattle.profile.specs.declared.fields.ByteString.{ByteString}
 use Rattle.profile.specs.declared.fields.Version.{Version}
 use Rattle.profile.specs.declared.fields.Version.the-variants.{Absent, Number}

@@ -11,10 +11,13 @@ use lib.ListN.{length}
 use borrow.Author.Tests.{eqb-true, eqb-false, ne-eqb}
 use Rattle.text.specs.Text.{within, all, empty, broken}
 use Rattle.text.specs.Place.{refused, putAfter}
+use Rattle.text.specs.Rows.{firstOf}
+use Rattle.text.proofs.Tests.{both, is-true}
+use Rattle.text.proofs.Writing.{put-refused}
+use Rattle.text.proofs.Rows.{Clear, clear, rows-stop, rows-pass}
 use Rattle.b64.specs.B64.{sextet, lowBitsZero, canonical, decode, decodeNumber, decoding}
 use Rattle.grammar.specs.Pieces.{Slot, pieces, slotOf}
 use Rattle.grammar.specs.Items.{Item, items, itemsOf}
-use Rattle.text.specs.Rows.{firstOf}
 use Rattle.grammar.specs.Rules.{isItem, isOutput, grammarRows, grammarNumber}
 use Rattle.grammar.specs.Layout.{placesOf, spanOf}
 use Rattle.grammar.specs.Parts.{partAt, textOf}
@@ -22,10 +25,12 @@ use Rattle.grammar.specs.declared.places.Piece.{Piece}
 use Rattle.grammar.specs.declared.places.Piece.the-variants.{Id, Params, Version as Piece·Version, Salt as Piece·Salt, Output as Piece·Output}
 use Rattle.grammar.specs.declared.places.Span.{Span}
 use Rattle.grammar.specs.declared.places.Places.{Places}
-use Rattle.text.proofs.Tests.{both, is-true}
-use Rattle.text.proofs.Writing.{put-refused}
-use Rattle.text.proofs.Rows.{Clear, clear, rows-stop, rows-pass}
 use Rattle.grammar.proofs.Reading.{accepted-rows, accepted-starts, slot-absent, slot-present, piece-part}
+use Rattle.profile.specs.Limits.{Profile, idOf, profileOf, editionTwo, limitsOf}
+use Rattle.profile.specs.Fields.{chosen, isSized, isBytes, readNumber, readBytes, readVersion}
+use Rattle.profile.specs.Reader.{names, slots, strangers, slotAt, rowsFor, profileRows, answer, fieldsOf}
+use Rattle.profile.specs.Entries.{refusedReading, kindOf, reading, decoded}
+use Rattle.profile.specs.ReaderSteps.{slotIn, slotsIn, ValuesAre, Judged, chosenText, WholeIs}
 use Rattle.profile.specs.declared.limits.BytesRule.{BytesRule}
 use Rattle.profile.specs.declared.fields.Version.{Version}
 use Rattle.profile.specs.declared.fields.Reading.{Reading}
@@ -34,11 +39,6 @@ use Rattle.profile.specs.declared.fields.ByteString.the-variants.{Keyid,
 use Rattle.profile.specs.declared.judge.Judgement.{Judgement}
 use Rattle.profile.specs.declared.values.Values.{Values}
 use Rattle.profile.specs.declared.reader.Whole.{Whole}
-use Rattle.profile.specs.Limits.{Profile, idOf, profileOf, editionTwo, limitsOf}
-use Rattle.profile.specs.Fields.{chosen, isSized, isBytes, readNumber, readBytes, readVersion}
-use Rattle.profile.specs.Reader.{names, slots, strangers, slotAt, rowsFor, profileRows, answer, fieldsOf}
-use Rattle.profile.specs.Entries.{refusedReading, kindOf, reading, decoded}
-use Rattle.profile.specs.ReaderSteps.{slotIn, slotsIn, ValuesAre, Judged, chosenText, WholeIs}
 use Rattle.profile.proofs.Accepted.{params-all}
 use Rattle.profile.proofs.SlotLaws.{slot-none, slot-some}
 

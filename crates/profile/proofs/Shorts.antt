@@ -13,8 +13,8 @@ use Rattle.profile.specs.Writer.{Permitted, refusal, formatted, shortFie
 use Rattle.profile.specs.Claims.{ShortAgrees}
 use Rattle.profile.specs.Fields.{fieldSet}
 use Rattle.profile.specs.Entries.{writing, shortWriting}
-use Rattle.profile.specs.declared.fields.Fields.{Fields}
 use Rattle.profile.specs.Sound.{usualSound}
+use Rattle.profile.specs.declared.fields.Fields.{Fields}
 use Rattle.profile.proofs.Table.{usual-at, edition-two-usual}
 use Rattle.profile.proofs.Demand3.{permitted}
 

@@ -6,10 +6,10 @@ use mathlib.Core.List.{List, [], _∷_, _++_}
 use mathlib.Core.Option.{Option, none, some}
 use mathlib.Core.Path.{_≡_, refl, sym, _∙_, ap, ap₂}
 use Rattle.text.specs.Text.{same, headIf, tailIf, listOf, Fails}
-use Rattle.grammar.specs.Pieces.{Slot}
-use Rattle.grammar.specs.Items.{Item}
 use Rattle.text.proofs.Tests.{both, is-false}
 use Rattle.text.proofs.Lists.{same-eq, same-refl, head-tail, head-of, tail-of}
+use Rattle.grammar.specs.Pieces.{Slot}
+use Rattle.grammar.specs.Items.{Item}
 use Rattle.profile.specs.Reader.{named, itemValue, slots, strangers}
 use Rattle.profile.specs.Writer.{item, itemList}
 

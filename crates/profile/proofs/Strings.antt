@@ -1,10 +1,10 @@
 -- The strings of specs/Strings.antt: their statement is computed.
 -- Assumes nothing.
 use mathlib.Core.Path.{refl}
-use Rattle.grammar.specs.Bytes.{isNameByte, isValueByte, isText}
-use Rattle.decimal.specs.Decimal.{isDigit, isUnsigned, valueFrom, value, isDecimal, decimalValue}
 use Rattle.b64.specs.B64.{sextet, lowBitsZero, canonical, decode}
+use Rattle.decimal.specs.Decimal.{isDigit, isUnsigned, valueFrom, value, isDecimal, decimalValue}
 use Rattle.decimal.specs.Numerals.{numeral, limitedReading}
+use Rattle.grammar.specs.Bytes.{isNameByte, isValueByte, isText}
 use Rattle.grammar.specs.Pieces.{pieces}
 use Rattle.grammar.specs.Rules.{isItem, isParams, isVersion, isOutput, badWhole}
 use Rattle.profile.specs.Limits.{editionTwo}

@@ -9,13 +9,13 @@ use lib.Dec.{leb, eqb, eqb·suc-zero}
 use lib.ListN.{getD, length}
 use borrow.Author.Tests.{eqb-true, leb-true}
 use Rattle.text.specs.Text.{same, every}
-use Rattle.grammar.specs.Bytes.{isNameByte, isText}
-use Rattle.grammar.specs.Rules.{isName}
 use Rattle.text.proofs.Tests.{both, implied}
 use Rattle.text.proofs.Lists.{same-eq}
+use Rattle.text.proofs.Table.{every-at}
+use Rattle.grammar.specs.Bytes.{isNameByte, isText}
+use Rattle.grammar.specs.Rules.{isName}
 use Rattle.profile.specs.Limits.{Profile, inRange, versionAllowed, next, idOf, nobody, profileOf, editionTwo}
 use Rattle.profile.specs.Sound.{soundNumber, soundBytes, soundVersions, soundAt, sound, usualAt, usualSound}
-use Rattle.text.proofs.Table.{every-at}
 
 -- ---- a test on each entry
 

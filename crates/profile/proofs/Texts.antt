@@ -7,6 +7,7 @@ use mathlib.Core.Path.{_≡_, refl, sym, _∙_, ap}
 use native.Mathlib.Omega.{arith}
 use lib.ListN.{length, length-append}
 use Rattle.text.specs.Text.{text, listOf}
+use Rattle.text.proofs.Joining.{marked, join-marked, append-five, length-five}
 use Rattle.grammar.specs.Pieces.{Slot}
 use Rattle.grammar.specs.Items.{Item, itemText, paramsText}
 use Rattle.profile.specs.Limits.{Profile, limitsOf, profileOf}
@@ -15,7 +16,6 @@ use Rattle.profile.specs.Reader.{names}
 use Rattle.profile.specs.Writer.{item, itemList, fieldSlots, fieldPieces, formatted}
 use Rattle.profile.specs.PieceTexts.{tagged, taggedLength, itemsText, dollared, piecesText, piecesLength}
 use Rattle.profile.specs.declared.limits.Limits.{Limits}
-use Rattle.text.proofs.Joining.{marked, join-marked, append-five, length-five}
 
 -- ---- tagged texts, each with a separator before it
 

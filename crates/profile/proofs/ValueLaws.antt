@@ -11,6 +11,10 @@ use lib.Dec.{leb}
 use lib.ListN.{length, take, drop, length-drop}
 use lib.Seq.{length-take-le, take-take, drop-drop}
 use Rattle.text.specs.Text.{text, all, same, empty, find, cut, within, tailIf, partsFrom}
+use Rattle.text.proofs.Tests.{both, from-within}
+use Rattle.text.proofs.Scanning.{find-from-le, find-take}
+use Rattle.text.proofs.Splitting.{from-past, some-from, cut-before, cut-after}
+use Rattle.text.proofs.Prefixes.{drop-take}
 use Rattle.grammar.specs.Bytes.{isValueByte, isText}
 use Rattle.grammar.specs.Pieces.{Slot}
 use Rattle.grammar.specs.Items.{Item, items}
@@ -18,16 +22,12 @@ use Rattle.grammar.specs.Rules.{isValue, isItem}
 use Rattle.grammar.specs.Layout.{span}
 use Rattle.grammar.specs.Parts.{partAt}
 use Rattle.grammar.specs.declared.places.Span.{Span}
-use Rattle.text.proofs.Tests.{both, from-within}
-use Rattle.text.proofs.Scanning.{find-from-le, find-take}
-use Rattle.text.proofs.Splitting.{from-past, some-from, cut-before, cut-after}
 use Rattle.grammar.proofs.Spans.{part-inside}
 use Rattle.grammar.proofs.ItemLaws.{items-start, items-to, item-value}
 use Rattle.profile.specs.Reader.{names, named, slots, strangers}
 use Rattle.profile.specs.ReaderSteps.{slotIn, itemsFrom, ValueStep, slotsIn, ValuesAre}
 use Rattle.profile.specs.declared.values.Values.{Values}
 use Rattle.profile.proofs.SlotLaws.{slot-some}
-use Rattle.text.proofs.Prefixes.{drop-take}
 
 value-long : (t : List ℕ) → isValue t ≡ true → 0 < length t
 unfolding isText

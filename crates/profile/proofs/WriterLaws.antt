@@ -9,9 +9,11 @@ use mathlib.Core.Path.{_≡_, refl, sym, _∙_, ap}
 use native.Mathlib.Omega.{arith}
 use lib.ListN.{length, set}
 use Rattle.text.specs.Text.{empty}
-use Rattle.b64.specs.B64.{encode}
 use Rattle.text.specs.Place.{hasRoom, Wrote, put}
 use Rattle.text.proofs.Writing.{put-clear}
+use Rattle.text.proofs.Lists.{length-filled}
+use Rattle.text.proofs.Writers.{Asked}
+use Rattle.b64.specs.B64.{encode}
 use Rattle.profile.specs.Limits.{isSize, limitsOf, editionTwo, room}
 use Rattle.profile.specs.Fields.{FieldSet, writeBytes}
 use Rattle.profile.specs.Writer.{bytesAllowed, refusal, formatted}
@@ -22,8 +24,6 @@ use Rattle.profile.specs.declared.limits.Limits.{Limits}
 use Rattle.profile.proofs.Kept.{here, kept}
 use Rattle.profile.proofs.Texts.{formatted-is, formatted-length}
 use Rattle.profile.proofs.Lengths.{most-room}
-use Rattle.text.proofs.Lists.{length-filled}
-use Rattle.text.proofs.Writers.{Asked}
 
 -- ---- a `$` in place of the first comma
 

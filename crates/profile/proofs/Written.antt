@@ -10,17 +10,18 @@ use lib.Dec.{leb, eqb}
 use lib.ListN.{length}
 use borrow.Author.Tests.{le-leb, le-ltb}
 use Rattle.text.specs.Text.{text, all, has, same, empty, listOf, broken, Frees, Fails, Fits}
-use Rattle.grammar.specs.Bytes.{isNameByte, isValueByte, isText}
+use Rattle.text.proofs.Tests.{both, and-true, neither, or-false, not-of-true, is-true, is-false}
+use Rattle.text.proofs.Rows.{Clear, zero-of, clear-append}
+use Rattle.text.proofs.Lists.{not-in, has-middle}
+use Rattle.text.proofs.Joining.{marked, join-marked, join-free}
 use Rattle.decimal.specs.Decimal.{digits}
+use Rattle.grammar.specs.Bytes.{isNameByte, isValueByte, isText}
 use Rattle.grammar.specs.Limits.{mostItems}
 use Rattle.grammar.specs.Pieces.{Slot, Pieces, isVersionPiece, belongs, pieces, string}
 use Rattle.grammar.specs.Items.{Item, itemText, itemsOf, paramsText}
 use Rattle.grammar.specs.Rules.{isName, isValue, isItem, isParams, pieceRows, grammarRows}
 use Rattle.grammar.specs.Claims.{Sorts}
 use Rattle.grammar.specs.declared.places.Piece.the-variants.{Version as Piece·Version, Params, Salt, Output}
-use Rattle.text.proofs.Tests.{both, and-true, neither, or-false, not-of-true, is-true, is-false}
-use Rattle.text.proofs.Rows.{Clear, zero-of, clear-append}
-use Rattle.text.proofs.Lists.{not-in, has-middle}
 use Rattle.grammar.proofs.ItemLaws.{joined, items-params, item-free, items-free, name-free, value-free}
 use Rattle.grammar.proofs.PieceLaws.{pieces-string}
 use Rattle.grammar.proofs.Reading.{whole-first}
@@ -29,13 +30,12 @@ use Rattle.profile.specs.Limits.{Profile, versionAllowed, profileOf}
 use Rattle.profile.specs.Fields.{FieldSet, writeNumber, writeBytes, writeVersion}
 use Rattle.profile.specs.Reader.{names, slots, strangers, rowsFor, profileRows, answer, fieldsFor, carried, fieldsOf}
 use Rattle.profile.specs.Writer.{Permitted, itemList, fieldSlots, fieldPieces, formatted}
+use Rattle.profile.specs.Sound.{sound}
 use Rattle.profile.specs.declared.fields.Version.{Version}
 use Rattle.profile.specs.declared.fields.Version.the-variants.{Absent, Number}
 use Rattle.profile.proofs.Codecs.{digits-values, NumberWritten, number-forth, BytesWritten, bytes-forth, VersionWritten, version-forth}
 use Rattle.profile.proofs.Slots.{slots-list}
-use Rattle.profile.specs.Sound.{sound}
 use Rattle.profile.proofs.Table.{Entry, entry-at, known-id}
-use Rattle.text.proofs.Joining.{marked, join-marked, join-free}
 
 -- ---- the items keep the grammar's rule
 

@@ -7,12 +7,12 @@ use mathlib.Core.Option.{none, some}
 use lib.Dec.{eqb}
 use lib.ListN.{length, drop}
 use Rattle.text.specs.Text.{text}
+use Rattle.b64.specs.B64.{canonical, decode, encode}
 use Rattle.decimal.specs.Decimal.{digits}
 use Rattle.decimal.specs.Numerals.{limitedReading, limitedNumber, limitedValue}
-use Rattle.grammar.specs.Limits.{largestVersion}
-use Rattle.b64.specs.B64.{canonical, decode, encode}
-use Rattle.grammar.specs.Pieces.{Slot}
 use Rattle.decimal.specs.declared.reader.Limited.{Limited}
+use Rattle.grammar.specs.Limits.{largestVersion}
+use Rattle.grammar.specs.Pieces.{Slot}
 use Rattle.profile.specs.Limits.{lowest, highest, isSize}
 use Rattle.profile.specs.declared.limits.NumberRule.{NumberRule}
 use Rattle.profile.specs.declared.limits.NumberRule.the-variants.{Needed, Omitted, Fixed}

@@ -7,9 +7,9 @@ use mathlib.Core.Option.{Option, none, some}
 use lib.Dec.{ltb, eqb}
 use lib.ListN.{getD}
 use Rattle.text.specs.Text.{text, same, empty, headIf, tailIf, broken}
+use Rattle.text.specs.Rows.{Row, row, firstOf}
 use Rattle.grammar.specs.Pieces.{Slot, Pieces, pieces}
 use Rattle.grammar.specs.Items.{Item, itemsOf}
-use Rattle.text.specs.Rows.{Row, row, firstOf}
 use Rattle.grammar.specs.Rules.{grammarRows}
 use Rattle.profile.specs.Limits.{Profile, limitsOf, versionAllowed, idOf, profileOf}
 use Rattle.profile.specs.Fields.{FieldSet, isNumber, misplacedNumber, readNumber, writtenOut, misplacedBytes, isSized, isBytes, readBytes, readVersion}

@@ -7,12 +7,12 @@ use mathlib.Core.List.{List, [], _∷_, map}
 use mathlib.Core.Option.{none, some}
 use lib.Dec.{eqb}
 use Rattle.text.specs.Text.{empty, cut, headIf, tailIf, partsFrom}
+use Rattle.text.specs.Rows.{Row, firstOf}
+use Rattle.b64.specs.B64.{canonical, decode}
 use Rattle.grammar.specs.Pieces.{Slot}
 use Rattle.grammar.specs.Items.{Item}
 use Rattle.grammar.specs.Parts.{partAt, textOf}
 use Rattle.grammar.specs.declared.places.Span.{Span}
-use Rattle.text.specs.Rows.{Row, firstOf}
-use Rattle.b64.specs.B64.{canonical, decode}
 use Rattle.profile.specs.Limits.{editionTwo}
 use Rattle.profile.specs.Fields.{chosen, readNumber}
 use Rattle.profile.specs.Reader.{names, named, itemValue, slots, strangers, slotAt, fieldsOf}

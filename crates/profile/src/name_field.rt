@@ -4,8 +4,8 @@ ghost use Prim.Native.Nat.{suc, _≤_};
 ghost use mathlib.Core.Path.{_≡_};
 ghost use mathlib.Core.List.{_∷_};
 ghost use lib.ListN.{length};
-ghost use Rattle.profile.specs.Limits.{profileOf, editionTwo};
 ghost use Rattle.text.specs.Place.{Wrote};
+ghost use Rattle.profile.specs.Limits.{profileOf, editionTwo};
 
 // The length of an id's name; 0 for a number that is no id's.
 pub fn name_len(id: u8) -> usize

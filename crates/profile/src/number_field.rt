@@ -15,13 +15,13 @@ ghost use mathlib.Core.Option.{none, some};
 ghost use mathlib.Core.List.{List};
 ghost use lib.ListN.{length};
 ghost use Rattle.text.specs.Rows.{firstOf};
+ghost use Rattle.text.specs.Place.{Wrote};
 ghost use Rattle.decimal.specs.Decimal.{digits};
 ghost use Rattle.decimal.specs.Numerals.{limitedValue};
 ghost use Rattle.profile.specs.Limits.{room};
 ghost use Rattle.profile.specs.Fields.{numberReading, misplacedNumber, readNumber, writtenOut, writeNumber};
 ghost use Rattle.profile.specs.Reader.{numberRow};
 ghost use Rattle.profile.specs.ReaderSteps.{slotIn};
-ghost use Rattle.text.specs.Place.{Wrote};
 ghost use Rattle.profile.specs.PieceTexts.{tagged, taggedLength};
 
 // What was read: the number of the row that applies, 0 where none does, and the value.

@@ -9,10 +9,10 @@ ghost use Prim.Native.Nat.{_+_, _≤_};
 ghost use mathlib.Core.Path.{_≡_};
 ghost use mathlib.Core.List.{_++_};
 ghost use lib.ListN.{length};
+ghost use Rattle.text.specs.Place.{Wrote};
 ghost use Rattle.decimal.specs.Decimal.{digits};
 ghost use Rattle.profile.specs.Limits.{room};
 ghost use Rattle.profile.specs.Fields.{writeBytes};
-ghost use Rattle.text.specs.Place.{Wrote};
 ghost use Rattle.profile.specs.PieceTexts.{tagged, taggedLength};
 
 // A text alone.

@@ -12,9 +12,9 @@ use crate::version_field::version_len;
 ghost use Prim.Native.Nat.{_≤_};
 ghost use mathlib.Core.Path.{_≡_};
 ghost use lib.ListN.{length};
+ghost use Rattle.text.specs.Place.{Wrote};
 ghost use Rattle.profile.specs.Limits.{profileOf, editionTwo, room};
 ghost use Rattle.profile.specs.Fields.{fieldSet};
-ghost use Rattle.text.specs.Place.{Wrote};
 ghost use Rattle.profile.specs.PieceTexts.{costsText, costsLength, itemsText, dollared, headText, piecesText, piecesLength};
 
 // The length of the numbers as items.

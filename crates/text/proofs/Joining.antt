@@ -5,9 +5,9 @@ use mathlib.Core.List.{List, [], _∷_, _++_, append-nil, append-assoc}
 use mathlib.Core.Path.{_≡_, sym, _∙_, ap, refl}
 use native.Mathlib.Omega.{arith}
 use lib.ListN.{length, length-append}
-use Rattle.text.specs.Text.{join, has, Frees, empty}
 use mathlib.Core.Bool.{false, not, true≢false}
 use lib.Dec.{eqb}
+use Rattle.text.specs.Text.{join, has, Frees, empty}
 use Rattle.text.proofs.Tests.{or-false}
 use Rattle.text.proofs.Lists.{has-append}
 

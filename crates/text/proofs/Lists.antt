@@ -11,10 +11,10 @@ use native.Mathlib.Omega.{arith}
 use lib.Dec.{eqb}
 use lib.ListN.{length, take, getD, set, drop}
 use borrow.Author.Tests.{eqb-true, eq-eqb}
-use Rattle.text.specs.Text.{all, has, same, empty, Parts, putByte, split, join, cutByte, cut, headIf, tailIf, listOf, Frees, Fails, Fits, broken}
-use Rattle.text.proofs.Tests.{both, and-true, neither, or-false, either, not-of-true}
 use native.Mathlib.Numerals.{add-one}
 use lib.Seq.{drop-cons, getD-set-same, drop-set-lt, lt-length-set}
+use Rattle.text.specs.Text.{all, has, same, empty, Parts, putByte, split, join, cutByte, cut, headIf, tailIf, listOf, Frees, Fails, Fits, broken}
+use Rattle.text.proofs.Tests.{both, and-true, neither, or-false, either, not-of-true}
 
 -- ---- emptiness
 

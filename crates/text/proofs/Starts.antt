@@ -10,9 +10,9 @@ use lib.Dec.{eqb}
 use lib.ListN.{length, drop, getD, drop-of-length-le}
 use lib.Seq.{drop-cons, drop-at}
 use borrow.Author.Tests.{eqb-true, eq-eqb, ne-eqb}
+use mathlib.Core.Option.{Option}
 use Rattle.text.specs.Text.{has, find, startsWith}
 use Rattle.text.proofs.Tests.{both, and-true, neither, is-false}
-use mathlib.Core.Option.{Option}
 
 -- ---- a text that begins with another
 

@@ -2,8 +2,8 @@
 use borrow.Author.Needs.{needs}
 use mathlib.Core.Path.{ap, _∙_}
 use denote.Ref.{now}
-use Rattle.accounts.specs.Lines.{lineAnswer}
 use Rattle.text.proofs.Wrote.{copied}
+use Rattle.accounts.specs.Lines.{lineAnswer}
 use Rattle.accounts.proofs.listing.judge_copied.Statement.{statement}
 use Rattle.accounts.proofs.listing.judge_copied.Tie as tie
 

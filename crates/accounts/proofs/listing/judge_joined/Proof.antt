@@ -6,8 +6,8 @@ use mathlib.Core.Path.{sym, ap, _∙_}
 use borrow.Author.Needs.{needs}
 use denote.Ref.{now}
 use lib.ListN.{length-append}
-use Rattle.accounts.specs.Lines.{lineAnswer}
 use Rattle.text.proofs.Lists.{length-nil}
+use Rattle.accounts.specs.Lines.{lineAnswer}
 use Rattle.accounts.proofs.LineLaws.{answer-long}
 use Rattle.accounts.proofs.listing.judge_joined.Statement.{statement}
 use Rattle.accounts.proofs.listing.judge_joined.Tie as tie

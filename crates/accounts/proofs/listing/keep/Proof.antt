@@ -2,9 +2,9 @@
 use borrow.Author.Needs.{needs}
 use denote.Ref.{now}
 use Rattle.text.proofs.Prefixes.{kept-more}
+use Rattle.accounts.specs.Feeding.{mostKept}
 use Rattle.accounts.proofs.listing.keep.Statement.{statement}
 use Rattle.accounts.proofs.listing.keep.Tie as tie
-use Rattle.accounts.specs.Feeding.{mostKept}
 
 returns : tie.Need-returns
 returns c =

@@ -3,8 +3,8 @@ use mathlib.Core.List.{[], _∷_}
 use native.Mathlib.Omega.{arith}
 use borrow.Author.Needs.{needs}
 use denote.Ref.{now}
-use Rattle.decimal.specs.Decimal.{digits}
 use Rattle.text.proofs.Wrote.{AllFit, First, More, first-put, next-put, chain-sum, chain-length}
+use Rattle.decimal.specs.Decimal.{digits}
 use Rattle.accounts.specs.Listing.{kindLine, rowText}
 use Rattle.accounts.proofs.row.put_row.Statement.{statement}
 use Rattle.accounts.proofs.row.put_row.Tie as tie

@@ -1,6 +1,6 @@
 -- `b64::canonical::is_canonical` meets its contract. Assumes nothing.
-use Rattle.b64.proofs.TableRules.{sextets-rule}
 use borrow.Author.Needs.{needs}
+use Rattle.b64.proofs.TableRules.{sextets-rule}
 use Rattle.b64.proofs.canonical.is_canonical.Statement.{statement}
 use Rattle.b64.proofs.canonical.is_canonical.Tie as tie
 

@@ -4,8 +4,8 @@ use borrow.Author.Needs.{needs}
 use native.Mathlib.Omega.{arith}
 use Prim.Native.Nat.{_-_, _%_, _<_}
 use lib.ListN.{length, drop, drop-of-length-le}
-use Rattle.b64.specs.B64.{decode}
 use Rattle.text.proofs.Groups.{Partly, partly-start, partly-end}
+use Rattle.b64.specs.B64.{decode}
 use Rattle.b64.proofs.B64Code.{completedFrom, completed-decode, sextet-at, next-room, next-step}
 use Rattle.b64.proofs.decoder.decode_all.Statement.{statement}
 use Rattle.b64.proofs.decoder.decode_all.Tie as tie

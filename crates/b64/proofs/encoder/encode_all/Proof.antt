@@ -4,11 +4,11 @@ use native.Mathlib.Omega.{arith}
 use Prim.Native.Nat.{_-_, _≤_}
 use mathlib.Core.Path.{_∙_, ap}
 use lib.ListN.{length, drop, length-drop}
+use Rattle.text.proofs.Writing.{tail-part}
+use Rattle.text.proofs.Groups.{Partly, partly-start, lent-room, lent-turn, lent-last}
 use Rattle.b64.specs.B64.{encode}
 use Rattle.b64.proofs.B64Laws.{length-encode}
 use Rattle.b64.proofs.B64Code.{encode-group}
-use Rattle.text.proofs.Writing.{tail-part}
-use Rattle.text.proofs.Groups.{Partly, partly-start, lent-room, lent-turn, lent-last}
 use Rattle.b64.proofs.encoder.encode_all.Statement.{statement}
 use Rattle.b64.proofs.encoder.encode_all.Tie as tie
 

@@ -2,8 +2,8 @@
 -- Assumes nothing.
 use native.Mathlib.Omega.{arith}
 use lib.ListN.{length-set}
-use Rattle.b64.proofs.B64Code.{encode-group, group-stored}
 use borrow.Author.Needs.{needs}
+use Rattle.b64.proofs.B64Code.{encode-group, group-stored}
 use Rattle.b64.proofs.encoder.encode_group.Statement.{statement}
 use Rattle.b64.proofs.encoder.encode_group.Tie as tie
 

@@ -2,9 +2,9 @@
 -- Assumes nothing.
 use native.Mathlib.Omega.{arith}
 use lib.ListN.{length-set}
+use borrow.Author.Needs.{needs}
 use Rattle.b64.proofs.B64Laws.{length-encode}
 use Rattle.b64.proofs.B64Code.{encode-none, one-stored, two-stored}
-use borrow.Author.Needs.{needs}
 use Rattle.b64.proofs.encoder.encode_rest.Statement.{statement}
 use Rattle.b64.proofs.encoder.encode_rest.Tie as tie
 

@@ -1,8 +1,8 @@
 -- `b64::groups::group` meets its contract. Assumes nothing.
 use borrow.Author.Needs.{needs}
+use Rattle.b64.proofs.B64Code.{group-past, group-bits}
 use Rattle.b64.proofs.groups.group.Statement.{statement}
 use Rattle.b64.proofs.groups.group.Tie as tie
-use Rattle.b64.proofs.B64Code.{group-past, group-bits}
 
 returns : tie.Need-returns
 returns c =

@@ -7,8 +7,8 @@ use Prim.Native.Nat.{_-_}
 use mathlib.Core.Path.{_≡_, sym, _∙_}
 use lib.ListN.{length, drop, getD}
 use Rattle.text.specs.Text.{all}
-use Rattle.b64.specs.B64.{inAlphabet, sextet}
 use Rattle.text.proofs.Scanning.{all-past, all-false, all-step}
+use Rattle.b64.specs.B64.{inAlphabet, sextet}
 use Rattle.b64.proofs.sextets.all_in_alphabet.Statement.{statement}
 use Rattle.b64.proofs.sextets.all_in_alphabet.Tie as tie
 

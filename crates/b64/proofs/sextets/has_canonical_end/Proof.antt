@@ -4,8 +4,8 @@ use native.Mathlib.Omega.{arith}
 use Prim.Native.Nat.{ℕ, _%_}
 use mathlib.Core.Path.{_∙_, ap}
 use lib.Dec.{eqb}
-use Rattle.b64.proofs.B64Code.{ends-0, ends-1, ends-2, ends-3}
 use borrow.Author.Needs.{needs}
+use Rattle.b64.proofs.B64Code.{ends-0, ends-1, ends-2, ends-3}
 use Rattle.b64.proofs.sextets.has_canonical_end.Statement.{statement}
 use Rattle.b64.proofs.sextets.has_canonical_end.Tie as tie
 

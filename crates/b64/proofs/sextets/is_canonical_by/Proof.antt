@@ -1,8 +1,8 @@
 -- `b64::sextets::is_canonical_by` meets its contract.
 -- Assumes nothing.
 use mathlib.Core.Path.{sym, _∙_}
-use Rattle.b64.proofs.B64Code.{canonical-in, canonical-out}
 use borrow.Author.Needs.{needs}
+use Rattle.b64.proofs.B64Code.{canonical-in, canonical-out}
 use Rattle.b64.proofs.sextets.is_canonical_by.Statement.{statement}
 use Rattle.b64.proofs.sextets.is_canonical_by.Tie as tie
 

@@ -6,8 +6,8 @@ use borrow.Author.Tests.{not-true, not-false}
 use denote.Ref.{now}
 use lib.ListN.{length, drop}
 use Rattle.text.specs.Text.{all}
-use Rattle.decimal.specs.Decimal.{isDigit}
 use Rattle.text.proofs.Scanning.{all-past, all-false, all-step}
+use Rattle.decimal.specs.Decimal.{isDigit}
 use Rattle.decimal.proofs.digits.all_digits.Statement.{statement}
 use Rattle.decimal.proofs.digits.all_digits.Tie as tie
 

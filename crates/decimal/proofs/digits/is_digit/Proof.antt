@@ -4,8 +4,8 @@ use native.Mathlib.Omega.{arith}
 use mathlib.Core.Path.{sym}
 use mathlib.Core.Bool.{true, false}
 use mathlib.Core.List.{[]}
-use Rattle.decimal.specs.Decimal.{isDigit}
 use Rattle.text.proofs.ClassLaws.{on}
+use Rattle.decimal.specs.Decimal.{isDigit}
 use Rattle.decimal.proofs.digits.is_digit.Statement.{statement}
 use Rattle.decimal.proofs.digits.is_digit.Tie as tie
 

@@ -4,9 +4,9 @@ use Prim.Native.Nat.{_-_}
 use native.Mathlib.Omega.{arith}
 use mir.Syntax.{w64}
 use mir.ValLaws.{toZ-pos}
+use borrow.Author.Needs.{needs}
 use Rattle.decimal.specs.DecimalSteps.{complementOf}
 use Rattle.decimal.proofs.SignSteps.{read-back, negated-is}
-use borrow.Author.Needs.{needs}
 use Rattle.decimal.proofs.reader.negated.Statement.{statement}
 use Rattle.decimal.proofs.reader.negated.Tie as tie
 

@@ -3,9 +3,9 @@ use mathlib.Core.Path.{sym, ap, _∙_}
 use borrow.Author.Needs.{needs}
 use denote.Ref.{now}
 use lib.ListN.{drop}
+use Rattle.text.proofs.Writing.{tail-part}
 use Rattle.decimal.specs.Numerals.{least, greatest, signed}
 use Rattle.decimal.specs.DecimalSteps.{unsignedReading, minus}
-use Rattle.text.proofs.Writing.{tail-part}
 use Rattle.decimal.proofs.SignSteps.{numeral-none, numeral-minus, numeral-plain, signed-minus, signed-plain, down-least}
 use Rattle.decimal.proofs.reader.read_signed.Statement.{statement}
 use Rattle.decimal.proofs.reader.read_signed.Tie as tie

@@ -4,10 +4,10 @@ use borrow.Author.Needs.{needs}
 use borrow.Author.Tests.{le-leb, lt-leb}
 use denote.Ref.{now}
 use lib.IntN.{pos}
+use Rattle.text.proofs.Writing.{tail-part}
 use Rattle.decimal.specs.Numerals.{limited, limitedReading}
 use Rattle.decimal.specs.DecimalSteps.{unsignedReading}
 use Rattle.decimal.specs.declared.reader.Limited.{Limited}
-use Rattle.text.proofs.Writing.{tail-part}
 use Rattle.decimal.proofs.SignSteps.{fromMinus, fromPlain, numeral-none, numeral-minus, numeral-plain, minus-none, down-none}
 use Rattle.decimal.proofs.reader.read_within.Statement.{statement}
 use Rattle.decimal.proofs.reader.read_within.Tie as tie

@@ -6,8 +6,8 @@ use native.Mathlib.Omega.{arith}
 use borrow.Author.Needs.{needs}
 use denote.Ref.{now}
 use lib.ListN.{length, drop, set, length-set, length-drop}
-use Rattle.decimal.specs.Decimal.{digits, decimalText}
 use Rattle.text.proofs.Writing.{tail-part, tail-over}
+use Rattle.decimal.specs.Decimal.{digits, decimalText}
 use Rattle.decimal.proofs.SignSteps.{text-below, text-other, put-minus}
 use Rattle.decimal.proofs.writer.put_decimal.Statement.{statement}
 use Rattle.decimal.proofs.writer.put_decimal.Tie as tie

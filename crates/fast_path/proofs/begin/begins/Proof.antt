@@ -1,6 +1,6 @@
 -- `fast_path::begin::begins` meets its contract. Assumes nothing.
-use Rattle.text.proofs.Starts.{separator-past, separator-other, separator-same}
 use borrow.Author.Needs.{needs}
+use Rattle.text.proofs.Starts.{separator-past, separator-other, separator-same}
 use Rattle.fast_path.proofs.begin.begins.Statement.{statement}
 use Rattle.fast_path.proofs.begin.begins.Tie as tie
 

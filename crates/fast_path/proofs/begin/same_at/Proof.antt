@@ -4,9 +4,9 @@ use mathlib.Core.Path.{_≡_, sym, _∙_}
 use native.Mathlib.Nat.{add-zero}
 use native.Mathlib.Omega.{arith}
 use lib.ListN.{length, drop, length-drop, drop-of-length-le}
+use borrow.Author.Needs.{needs}
 use Rattle.text.specs.Text.{startsWith}
 use Rattle.text.proofs.Starts.{starts-short, starts-same, starts-other}
-use borrow.Author.Needs.{needs}
 use Rattle.fast_path.proofs.begin.same_at.Statement.{statement}
 use Rattle.fast_path.proofs.begin.same_at.Tie as tie
 

@@ -3,10 +3,10 @@ use mathlib.Core.Path.{sym, _∙_}
 use mathlib.Core.List.{_∷_}
 use native.Mathlib.Omega.{arith}
 use lib.ListN.{drop, length-drop}
+use borrow.Author.Needs.{needs}
 use Rattle.text.proofs.Starts.{starts-text}
 use Rattle.fast_path.proofs.Chains.{bytes-there}
 use Rattle.fast_path.proofs.StringLaws.{bytes-none}
-use borrow.Author.Needs.{needs}
 use Rattle.fast_path.proofs.items.bytes_item.Statement.{statement}
 use Rattle.fast_path.proofs.items.bytes_item.Tie as tie
 

@@ -1,7 +1,7 @@
 -- `fast_path::items::number_item` meets its contract. Assumes nothing.
 use mathlib.Core.Path.{sym, _∙_}
-use Rattle.fast_path.proofs.Chains.{number-there, number-absent}
 use borrow.Author.Needs.{needs}
+use Rattle.fast_path.proofs.Chains.{number-there, number-absent}
 use Rattle.fast_path.proofs.items.number_item.Statement.{statement}
 use Rattle.fast_path.proofs.items.number_item.Tie as tie
 

@@ -1,7 +1,7 @@
 -- `fast_path::items::written_bytes` meets its contract. Assumes nothing.
 use mathlib.Core.Path.{sym, _∙_}
-use Rattle.fast_path.proofs.StringLaws.{run-ahead, bytes-no, bytes-empty, bytes-unsized, bytes-sized}
 use borrow.Author.Needs.{needs}
+use Rattle.fast_path.proofs.StringLaws.{run-ahead, bytes-no, bytes-empty, bytes-unsized, bytes-sized}
 use Rattle.fast_path.proofs.items.written_bytes.Statement.{statement}
 use Rattle.fast_path.proofs.items.written_bytes.Tie as tie
 

@@ -1,7 +1,7 @@
 -- `fast_path::items::written_number` meets its contract. Assumes nothing.
 use mathlib.Core.Path.{sym, _∙_}
-use Rattle.fast_path.proofs.Chains.{number-outside, number-unwritten, number-written}
 use borrow.Author.Needs.{needs}
+use Rattle.fast_path.proofs.Chains.{number-outside, number-unwritten, number-written}
 use Rattle.fast_path.proofs.items.written_number.Statement.{statement}
 use Rattle.fast_path.proofs.items.written_number.Tie as tie
 

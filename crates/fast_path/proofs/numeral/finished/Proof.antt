@@ -1,6 +1,6 @@
 -- `fast_path::numeral::finished` meets its contract. Assumes nothing.
-use Rattle.fast_path.proofs.Numerals.{numeral-none, numeral-zeros, numeral-zero, numeral-large, numeral-is}
 use borrow.Author.Needs.{needs}
+use Rattle.fast_path.proofs.Numerals.{numeral-none, numeral-zeros, numeral-zero, numeral-large, numeral-is}
 use Rattle.fast_path.proofs.numeral.finished.Statement.{statement}
 use Rattle.fast_path.proofs.numeral.finished.Tie as tie
 

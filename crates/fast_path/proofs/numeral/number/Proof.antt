@@ -2,8 +2,8 @@
 use Prim.Native.Nat.{_-_, _≤_}
 use native.Mathlib.Omega.{arith}
 use lib.ListN.{length}
-use Rattle.fast_path.proofs.Numerals.{below-digits, above-digits, Counting, counting-start, counting-digit, counting-stop, counting-end, counting-large, numeral-past}
 use borrow.Author.Needs.{needs}
+use Rattle.fast_path.proofs.Numerals.{below-digits, above-digits, Counting, counting-start, counting-digit, counting-stop, counting-end, counting-large, numeral-past}
 use Rattle.fast_path.proofs.numeral.number.Statement.{statement}
 use Rattle.fast_path.proofs.numeral.number.Tie as tie
 

@@ -1,6 +1,6 @@
 -- `fast_path::reader::read` meets its contract. Assumes nothing.
-use Rattle.fast_path.proofs.Answers.{found-reading}
 use borrow.Author.Needs.{needs}
+use Rattle.fast_path.proofs.Answers.{found-reading}
 use Rattle.fast_path.proofs.reader.read.Statement.{statement}
 use Rattle.fast_path.proofs.reader.read.Tie as tie
 

@@ -1,6 +1,6 @@
 -- `fast_path::reader::read_all` meets its contract. Assumes nothing.
-use Rattle.fast_path.proofs.Answers.{all-refused, found-room, all-found}
 use borrow.Author.Needs.{needs}
+use Rattle.fast_path.proofs.Answers.{all-refused, found-room, all-found}
 use Rattle.fast_path.proofs.reader.read_all.Statement.{statement}
 use Rattle.fast_path.proofs.reader.read_all.Tie as tie
 

@@ -1,7 +1,7 @@
 -- `fast_path::reader::store` meets its contract. Assumes nothing.
 use mathlib.Core.Path.{refl}
-use Rattle.fast_path.proofs.Answers.{store-full, store-done}
 use borrow.Author.Needs.{needs}
+use Rattle.fast_path.proofs.Answers.{store-full, store-done}
 use Rattle.fast_path.proofs.reader.store.Statement.{statement}
 use Rattle.fast_path.proofs.reader.store.Tie as tie
 

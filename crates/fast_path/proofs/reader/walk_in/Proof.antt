@@ -1,6 +1,6 @@
 -- `fast_path::reader::walk_in` meets its contract. Assumes nothing.
-use Rattle.b64.proofs.Claims.{table-claims}
 use borrow.Author.Needs.{needs}
+use Rattle.b64.proofs.Claims.{table-claims}
 use Rattle.fast_path.proofs.reader.walk_in.Statement.{statement}
 use Rattle.fast_path.proofs.reader.walk_in.Tie as tie
 

@@ -1,6 +1,6 @@
 -- `fast_path::run::decode_run` meets its contract. Assumes nothing.
-use Rattle.fast_path.proofs.RunLaws.{reached-run}
 use borrow.Author.Needs.{needs}
+use Rattle.fast_path.proofs.RunLaws.{reached-run}
 use Rattle.fast_path.proofs.run.decode_run.Statement.{statement}
 use Rattle.fast_path.proofs.run.decode_run.Tie as tie
 

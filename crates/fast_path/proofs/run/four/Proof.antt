@@ -1,7 +1,7 @@
 -- `fast_path::run::four` meets its contract. Assumes nothing.
 use mathlib.Core.Path.{_∙_}
-use Rattle.b64.specs.B64.{groupOf}
 use borrow.Author.Needs.{needs}
+use Rattle.b64.specs.B64.{groupOf}
 use Rattle.fast_path.proofs.run.four.Statement.{statement}
 use Rattle.fast_path.proofs.run.four.Tie as tie
 

@@ -1,7 +1,7 @@
 -- `fast_path::run::put_one` meets its contract. Assumes nothing.
 use native.Mathlib.Omega.{arith}
-use Rattle.text.proofs.Over.{over-set}
 use borrow.Author.Needs.{needs}
+use Rattle.text.proofs.Over.{over-set}
 use Rattle.fast_path.proofs.run.put_one.Statement.{statement}
 use Rattle.fast_path.proofs.run.put_one.Tie as tie
 

@@ -1,8 +1,8 @@
 -- `fast_path::run::put_three` meets its contract. Assumes nothing.
 use native.Mathlib.Omega.{arith}
 use lib.ListN.{length-set}
-use Rattle.text.proofs.Over.{over-set-three}
 use borrow.Author.Needs.{needs}
+use Rattle.text.proofs.Over.{over-set-three}
 use Rattle.fast_path.proofs.run.put_three.Statement.{statement}
 use Rattle.fast_path.proofs.run.put_three.Tie as tie
 

@@ -1,8 +1,8 @@
 -- `fast_path::run::put_two` meets its contract. Assumes nothing.
 use native.Mathlib.Omega.{arith}
 use lib.ListN.{length-set}
-use Rattle.text.proofs.Over.{over-set-two}
 use borrow.Author.Needs.{needs}
+use Rattle.text.proofs.Over.{over-set-two}
 use Rattle.fast_path.proofs.run.put_two.Statement.{statement}
 use Rattle.fast_path.proofs.run.put_two.Tie as tie
 

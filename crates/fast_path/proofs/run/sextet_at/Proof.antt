@@ -1,6 +1,6 @@
 -- `fast_path::run::sextet_at` meets its contract. Assumes nothing.
-use Rattle.fast_path.proofs.RunLaws.{sextet-past}
 use borrow.Author.Needs.{needs}
+use Rattle.fast_path.proofs.RunLaws.{sextet-past}
 use Rattle.fast_path.proofs.run.sextet_at.Statement.{statement}
 use Rattle.fast_path.proofs.run.sextet_at.Tie as tie
 

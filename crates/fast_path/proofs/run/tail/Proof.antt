@@ -1,7 +1,7 @@
 -- `fast_path::run::tail` meets its contract. Assumes nothing.
 use native.Mathlib.Omega.{arith}
-use Rattle.fast_path.proofs.RunLaws.{ran-none, no-one, ran-two, no-two, no-room, ran-three, no-three}
 use borrow.Author.Needs.{needs}
+use Rattle.fast_path.proofs.RunLaws.{ran-none, no-one, ran-two, no-two, no-room, ran-three, no-three}
 use Rattle.fast_path.proofs.run.tail.Statement.{statement}
 use Rattle.fast_path.proofs.run.tail.Tie as tie
 

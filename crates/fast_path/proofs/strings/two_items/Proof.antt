@@ -1,7 +1,7 @@
 -- `fast_path::strings::two_items` meets its contract. Assumes nothing.
 use native.Mathlib.Omega.{arith}
-use Rattle.fast_path.proofs.StringLaws.{stored-size, no-first, no-second, both-strings}
 use borrow.Author.Needs.{needs}
+use Rattle.fast_path.proofs.StringLaws.{stored-size, no-first, no-second, both-strings}
 use Rattle.fast_path.proofs.strings.two_items.Statement.{statement}
 use Rattle.fast_path.proofs.strings.two_items.Tie as tie
 

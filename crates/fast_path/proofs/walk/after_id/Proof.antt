@@ -1,8 +1,8 @@
 -- `fast_path::walk::after_id` meets its contract. Assumes nothing.
 use native.Mathlib.Omega.{arith}
+use borrow.Author.Needs.{needs}
 use Rattle.fast_path.proofs.Chains.{after-none, after-some}
 use Rattle.fast_path.proofs.StringLaws.{roomy-two}
-use borrow.Author.Needs.{needs}
 use Rattle.fast_path.proofs.walk.after_id.Statement.{statement}
 use Rattle.fast_path.proofs.walk.after_id.Tie as tie
 

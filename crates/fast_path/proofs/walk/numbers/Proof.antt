@@ -1,6 +1,6 @@
 -- `fast_path::walk::numbers` meets its contract. Assumes nothing.
-use Rattle.fast_path.proofs.Chains.{no-m, no-t, no-p, few-kilobytes, all-numbers}
 use borrow.Author.Needs.{needs}
+use Rattle.fast_path.proofs.Chains.{no-m, no-t, no-p, few-kilobytes, all-numbers}
 use Rattle.fast_path.proofs.walk.numbers.Statement.{statement}
 use Rattle.fast_path.proofs.walk.numbers.Tie as tie
 

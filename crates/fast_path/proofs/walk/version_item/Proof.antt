@@ -1,7 +1,7 @@
 -- `fast_path::walk::version_item` meets its contract. Assumes nothing.
 use mathlib.Core.Path.{sym, _∙_}
-use Rattle.fast_path.proofs.Chains.{version-none, version-there, version-absent}
 use borrow.Author.Needs.{needs}
+use Rattle.fast_path.proofs.Chains.{version-none, version-there, version-absent}
 use Rattle.fast_path.proofs.walk.version_item.Statement.{statement}
 use Rattle.fast_path.proofs.walk.version_item.Tie as tie
 

@@ -1,10 +1,10 @@
 -- `fast_path::walk::walk_string` meets its contract. Assumes nothing.
-use Rattle.fast_path.proofs.Chains.{walked-empty, walked-other, walked-id}
 use borrow.Author.Needs.{needs}
+use native.Mathlib.Omega.{arith}
+use Rattle.text.proofs.Scanning.{find-from-le}
+use Rattle.fast_path.proofs.Chains.{walked-empty, walked-other, walked-id}
 use Rattle.fast_path.proofs.walk.walk_string.Statement.{statement}
 use Rattle.fast_path.proofs.walk.walk_string.Tie as tie
-use Rattle.text.proofs.Scanning.{find-from-le}
-use native.Mathlib.Omega.{arith}
 
 returns : tie.Need-returns
 returns c = walked-empty _ _ (c .if1 .taken)

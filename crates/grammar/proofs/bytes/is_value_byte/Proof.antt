@@ -4,8 +4,8 @@ use native.Mathlib.Omega.{arith}
 use mathlib.Core.Path.{sym}
 use mathlib.Core.Bool.{true, false}
 use mathlib.Core.List.{[], _∷_}
-use Rattle.grammar.specs.Bytes.{isValueByte}
 use Rattle.text.proofs.ClassLaws.{on, keyed}
+use Rattle.grammar.specs.Bytes.{isValueByte}
 use Rattle.grammar.proofs.bytes.is_value_byte.Statement.{statement}
 use Rattle.grammar.proofs.bytes.is_value_byte.Tie as tie
 

@@ -6,8 +6,8 @@ use borrow.Author.Tests.{not-true, not-false}
 use denote.Ref.{now}
 use lib.ListN.{length, drop}
 use Rattle.text.specs.Text.{all}
-use Rattle.grammar.specs.Bytes.{inClass}
 use Rattle.text.proofs.Scanning.{all-past, all-false, all-step}
+use Rattle.grammar.specs.Bytes.{inClass}
 use Rattle.grammar.proofs.classes.all_of.Statement.{statement}
 use Rattle.grammar.proofs.classes.all_of.Tie as tie
 

@@ -1,8 +1,8 @@
 -- `grammar::classes::is_text` meets its contract. Assumes nothing.
 use mathlib.Core.Bool.{and-false}
 use borrow.Author.Tests.{le-leb, lt-leb}
-use Rattle.grammar.specs.Bytes.{isText}
 use borrow.Author.Needs.{needs}
+use Rattle.grammar.specs.Bytes.{isText}
 use Rattle.grammar.proofs.classes.is_text.Statement.{statement}
 use Rattle.grammar.proofs.classes.is_text.Tie as tie
 

@@ -7,10 +7,10 @@ use borrow.Author.Tests.{not-true, not-false}
 use denote.Ref.{now}
 use lib.ListN.{length}
 use Rattle.text.specs.Text.{cut}
-use Rattle.grammar.specs.Limits.{mostItems}
-use Rattle.grammar.specs.Rules.{isParams}
 use Rattle.text.proofs.Scanning.{find-from-le}
 use Rattle.text.proofs.Splitting.{from-past}
+use Rattle.grammar.specs.Limits.{mostItems}
+use Rattle.grammar.specs.Rules.{isParams}
 use Rattle.grammar.proofs.ItemLaws.{itemsFrom, items-start, fine, fine-start, fine-full, fine-bad, fine-on, fine-end}
 use Rattle.grammar.proofs.items.is_params.Statement.{statement}
 use Rattle.grammar.proofs.items.is_params.Tie as tie

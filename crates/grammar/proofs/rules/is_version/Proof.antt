@@ -3,11 +3,11 @@ use borrow.Author.Needs.{needs}
 use mathlib.Core.Path.{_≡_, sym, _∙_, ap}
 use denote.Ref.{now}
 use lib.Dec.{eqb}
-use Rattle.grammar.specs.Limits.{largestVersion}
-use Rattle.decimal.specs.Numerals.{limitedReading, limitedNumber}
-use Rattle.grammar.specs.Rules.{isVersion}
-use Rattle.decimal.specs.declared.reader.Limited.{Limited}
 use Rattle.text.proofs.Writing.{tail-part}
+use Rattle.decimal.specs.Numerals.{limitedReading, limitedNumber}
+use Rattle.decimal.specs.declared.reader.Limited.{Limited}
+use Rattle.grammar.specs.Limits.{largestVersion}
+use Rattle.grammar.specs.Rules.{isVersion}
 use Rattle.grammar.proofs.RuleLaws.{version-none, version-is}
 use Rattle.grammar.proofs.rules.is_version.Statement.{statement}
 use Rattle.grammar.proofs.rules.is_version.Tie as tie

@@ -5,9 +5,9 @@ use mathlib.Core.List.{List}
 use lib.ListN.{drop}
 use denote.Ref.{now}
 use Rattle.text.specs.Text.{empty}
+use Rattle.text.specs.Rows.{Row, firstOf}
 use Rattle.grammar.specs.Pieces.{pieces}
 use Rattle.grammar.specs.Rules.{starts, pieceRows}
-use Rattle.text.specs.Rows.{Row, firstOf}
 use Rattle.grammar.specs.Layout.{placesOf}
 use Rattle.grammar.specs.declared.sorting.Sorted.{Sorted}
 use Rattle.grammar.proofs.rules.number_of.Statement.{statement}

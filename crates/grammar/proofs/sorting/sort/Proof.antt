@@ -1,7 +1,7 @@
 -- `grammar::sorting::sort` meets its contract. Assumes nothing.
 use denote.Ref.{now}
-use Rattle.grammar.proofs.SortLaws.{sorts}
 use borrow.Author.Needs.{needs}
+use Rattle.grammar.proofs.SortLaws.{sorts}
 use Rattle.grammar.proofs.sorting.sort.Statement.{statement}
 use Rattle.grammar.proofs.sorting.sort.Tie as tie
 

@@ -2,9 +2,9 @@
 use mathlib.Core.Path.{_∙_, sym}
 use native.Mathlib.Omega.{arith}
 use denote.Ref.{now}
+use borrow.Author.Needs.{needs}
 use Rattle.text.proofs.Scanning.{find-from-le}
 use Rattle.grammar.proofs.SortLaws.{stepped-past, stepped-to, stepped-not}
-use borrow.Author.Needs.{needs}
 use Rattle.grammar.proofs.sorting.take_piece.Statement.{statement}
 use Rattle.grammar.proofs.sorting.take_piece.Tie as tie
 

@@ -1,7 +1,7 @@
 -- `phc::reading::phc_read` meets its contract. Assumes nothing.
 use denote.Ref.{now}
-use Rattle.phc.proofs.RecordLaws.{record-refused, record-full, record-done}
 use borrow.Author.Needs.{needs}
+use Rattle.phc.proofs.RecordLaws.{record-refused, record-full, record-done}
 use Rattle.phc.proofs.reading.phc_read.Statement.{statement}
 use Rattle.phc.proofs.reading.phc_read.Tie as tie
 

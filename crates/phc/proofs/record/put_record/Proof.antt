@@ -1,9 +1,9 @@
 -- `phc::record::put_record` meets its contract. Assumes nothing.
 use mathlib.Core.Path.{refl}
 use native.Mathlib.Omega.{arith}
-use Rattle.phc.specs.Records.{headBytes}
-use Rattle.text.proofs.Over.{put-text, put-after}
 use borrow.Author.Needs.{needs}
+use Rattle.text.proofs.Over.{put-text, put-after}
+use Rattle.phc.specs.Records.{headBytes}
 use Rattle.phc.proofs.record.put_record.Statement.{statement}
 use Rattle.phc.proofs.record.put_record.Tie as tie
 

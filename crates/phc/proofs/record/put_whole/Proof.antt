@@ -1,9 +1,9 @@
 -- `phc::record::put_whole` meets its contract. Assumes nothing.
 use mathlib.Core.Path.{refl}
 use native.Mathlib.Omega.{arith}
-use Rattle.phc.specs.Records.{recordBytes}
-use Rattle.text.proofs.Over.{put-after}
 use borrow.Author.Needs.{needs}
+use Rattle.text.proofs.Over.{put-after}
+use Rattle.phc.specs.Records.{recordBytes}
 use Rattle.phc.proofs.record.put_whole.Statement.{statement}
 use Rattle.phc.proofs.record.put_whole.Tie as tie
 

@@ -1,7 +1,7 @@
 -- `phc::whole::phc_read_all` meets its contract. Assumes nothing.
 use denote.Ref.{now}
-use Rattle.phc.proofs.WholeLaws.{whole-short, whole-refused, whole-done}
 use borrow.Author.Needs.{needs}
+use Rattle.phc.proofs.WholeLaws.{whole-short, whole-refused, whole-done}
 use Rattle.phc.proofs.whole.phc_read_all.Statement.{statement}
 use Rattle.phc.proofs.whole.phc_read_all.Tie as tie
 

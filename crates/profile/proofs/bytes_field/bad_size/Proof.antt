@@ -1,8 +1,8 @@
 -- `profile::bytes_field::bad_size` meets its contract. Assumes nothing.
 use borrow.Author.Needs.{needs}
 use denote.Ref.{now}
-use Rattle.grammar.specs.Parts.{partAt}
 use Rattle.b64.proofs.B64Laws.{length-decode}
+use Rattle.grammar.specs.Parts.{partAt}
 use Rattle.profile.proofs.SlotLaws.{slot-none, slot-some}
 use Rattle.profile.proofs.bytes_field.bad_size.Statement.{statement}
 use Rattle.profile.proofs.bytes_field.bad_size.Tie as tie

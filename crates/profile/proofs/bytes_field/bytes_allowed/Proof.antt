@@ -2,8 +2,8 @@
 use mathlib.Core.Path.{_∙_, sym}
 use borrow.Author.Needs.{needs}
 use denote.Ref.{now}
-use Rattle.profile.proofs.WriterLaws.{sized-allowed}
 use Rattle.text.proofs.Lists.{length-nil}
+use Rattle.profile.proofs.WriterLaws.{sized-allowed}
 use Rattle.profile.proofs.bytes_field.bytes_allowed.Statement.{statement}
 use Rattle.profile.proofs.bytes_field.bytes_allowed.Tie as tie
 

@@ -6,12 +6,12 @@ use mathlib.Core.List.{List, [], _∷_}
 use mathlib.Core.Path.{_≡_, sym, _∙_}
 use denote.Ref.{now}
 use Rattle.text.specs.Text.{broken}
-use Rattle.grammar.specs.Pieces.{Slot}
 use Rattle.text.specs.Rows.{row, firstOf}
-use Rattle.profile.specs.declared.limits.Limits.{Limits}
+use Rattle.grammar.specs.Pieces.{Slot}
 use Rattle.profile.specs.Fields.{isBytes, writtenOut}
 use Rattle.profile.specs.Reader.{slotAt, spellingRows}
 use Rattle.profile.specs.ReaderSteps.{slotsIn, NumbersAre}
+use Rattle.profile.specs.declared.limits.Limits.{Limits}
 use Rattle.profile.proofs.judge.bytes_and_spelling.Statement.{statement}
 use Rattle.profile.proofs.judge.bytes_and_spelling.Tie as tie
 

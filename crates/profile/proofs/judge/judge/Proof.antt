@@ -8,8 +8,9 @@ use native.Mathlib.Omega.{arith}
 use lib.ListN.{drop}
 use denote.Ref.{now}
 use Rattle.text.specs.Text.{broken}
-use Rattle.grammar.specs.Pieces.{Slot}
 use Rattle.text.specs.Rows.{Row, firstOf}
+use Rattle.text.proofs.Rows.{rows-stop, rows-next}
+use Rattle.grammar.specs.Pieces.{Slot}
 use Rattle.profile.specs.Limits.{limitsOf, profileOf, editionTwo}
 use Rattle.profile.specs.Fields.{isSized, isBytes}
 use Rattle.profile.specs.Reader.{misplaced, numberRows, spellingRows, rowsFor}
@@ -17,7 +18,6 @@ use Rattle.profile.specs.ReaderSteps.{slotIn, slotsIn, NumbersAre, Judge
 use Rattle.profile.specs.declared.judge.Judgement.{Judgement}
 use Rattle.profile.specs.declared.limits.Limits.{Limits}
 use Rattle.profile.proofs.JudgeLaws.{judged-refused, judged-accepted, judged-before}
-use Rattle.text.proofs.Rows.{rows-stop, rows-next}
 use Rattle.profile.proofs.judge.judge.Statement.{statement}
 use Rattle.profile.proofs.judge.judge.Tie as tie
 

@@ -8,15 +8,15 @@ use borrow.Author.Needs.{needs}
 use borrow.Author.Tests.{lt-ltb, le-ltb}
 use denote.Ref.{now}
 use lib.Dec.{ltb}
-use Rattle.grammar.specs.Pieces.{Slot}
 use Rattle.text.specs.Rows.{Row, row, firstOf}
+use Rattle.text.proofs.Rows.{rows-stop, rows-next}
+use Rattle.grammar.specs.Pieces.{Slot}
 use Rattle.profile.specs.Fields.{misplacedNumber, readNumber}
 use Rattle.profile.specs.Reader.{slotAt, numberRow, numberRows}
 use Rattle.profile.specs.ReaderSteps.{slotsIn, Judged}
 use Rattle.profile.specs.declared.judge.Judgement.{Judgement}
 use Rattle.profile.specs.declared.limits.Limits.{Limits}
 use Rattle.profile.proofs.JudgeLaws.{placed, lanes, judged-refused, judged-accepted}
-use Rattle.text.proofs.Rows.{rows-stop, rows-next}
 use Rattle.profile.proofs.judge.read_numbers.Statement.{statement}
 use Rattle.profile.proofs.judge.read_numbers.Tie as tie
 

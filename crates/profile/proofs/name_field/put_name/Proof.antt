@@ -5,8 +5,8 @@ use mathlib.Core.Path.{_≡_, sym, subst}
 use borrow.Author.Needs.{needs}
 use denote.Ref.{now}
 use lib.ListN.{length}
-use Rattle.profile.specs.Limits.{profileOf, editionTwo}
 use Rattle.text.specs.Place.{Wrote}
+use Rattle.profile.specs.Limits.{profileOf, editionTwo}
 use Rattle.profile.proofs.LimitLaws.{no-name}
 use Rattle.profile.proofs.name_field.put_name.Statement.{statement}
 use Rattle.profile.proofs.name_field.put_name.Tie as tie

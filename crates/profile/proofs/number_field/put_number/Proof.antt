@@ -3,9 +3,9 @@ use mathlib.Core.Option.{some}
 use mathlib.Core.Path.{_≡_}
 use borrow.Author.Needs.{needs}
 use denote.Ref.{now}
+use Rattle.text.proofs.Wrote.{wrote-nothing}
 use Rattle.decimal.specs.Decimal.{digits}
 use Rattle.profile.specs.Fields.{writeNumber}
-use Rattle.text.proofs.Wrote.{wrote-nothing}
 use Rattle.profile.proofs.number_field.put_number.Statement.{statement}
 use Rattle.profile.proofs.number_field.put_number.Tie as tie
 

@@ -5,8 +5,8 @@ use mathlib.Core.Path.{refl, _∙_, ap}
 use mathlib.Core.List.{List}
 use mathlib.Core.Option.{some}
 use denote.Ref.{now}
-use Rattle.decimal.specs.Numerals.{limitedValue}
 use Rattle.text.specs.Rows.{firstOf}
+use Rattle.decimal.specs.Numerals.{limitedValue}
 use Rattle.profile.specs.Fields.{numberReading}
 use Rattle.profile.specs.Reader.{numberRow}
 use Rattle.profile.proofs.FieldLaws.{number-there}

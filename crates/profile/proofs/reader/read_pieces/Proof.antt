@@ -3,15 +3,15 @@ use borrow.Author.Needs.{needs}
 use mathlib.Core.Path.{sym, _∙_, ap, subst}
 use mathlib.Core.Bool.{not, cond}
 use lib.Dec.{eqb}
-use Rattle.grammar.specs.Items.{items}
 use Prim.Native.Nat.{ℕ}
 use mathlib.Core.List.{List, []}
 use denote.Ref.{now}
-use Rattle.profile.specs.Limits.{idOf, profileOf, editionTwo, limitsOf}
-use Rattle.profile.specs.declared.fields.Reading.{Reading}
+use Rattle.grammar.specs.Items.{items}
 use Rattle.grammar.specs.Parts.{partAt}
+use Rattle.profile.specs.Limits.{idOf, profileOf, editionTwo, limitsOf}
 use Rattle.profile.specs.Reader.{rowsFor}
 use Rattle.profile.specs.ReaderSteps.{slotIn, slotsIn, ValuesAre, Judged}
+use Rattle.profile.specs.declared.fields.Reading.{Reading}
 use Rattle.profile.proofs.ReadLaws.{part-items, Found, found, judged-number, accepted-reading, accepted-texts, reading-refused, whole-refused}
 use Rattle.profile.proofs.reader.read_pieces.Statement.{statement}
 use Rattle.profile.proofs.reader.read_pieces.Tie as tie

@@ -6,12 +6,12 @@ use native.Mathlib.Omega.{arith}
 use borrow.Author.Needs.{needs}
 use denote.Ref.{now}
 use lib.ListN.{length, drop}
+use Rattle.text.proofs.Writing.{tail-part}
 use Rattle.decimal.specs.Decimal.{isDecimal}
 use Rattle.decimal.specs.Numerals.{numeral, limitedReading, limitedValue}
-use Rattle.grammar.specs.Limits.{largestVersion}
 use Rattle.decimal.specs.declared.reader.Limited.{Limited}
 use Rattle.decimal.proofs.NumeralLaws.{digits-limited}
-use Rattle.text.proofs.Writing.{tail-part}
+use Rattle.grammar.specs.Limits.{largestVersion}
 use Rattle.profile.specs.Fields.{readVersion}
 use Rattle.profile.specs.ReaderSteps.{slotIn}
 use Rattle.profile.specs.declared.fields.Version.{Version}

@@ -5,13 +5,13 @@ use native.Mathlib.Omega.{arith}
 use borrow.Author.Needs.{needs}
 use denote.Ref.{now}
 use lib.ListN.{length}
+use Rattle.text.proofs.Lists.{length-nil}
 use Rattle.b64.specs.B64.{encode}
 use Rattle.b64.proofs.B64Laws.{length-encode}
 use Rattle.profile.specs.Limits.{room}
 use Rattle.profile.specs.Fields.{writeBytes}
 use Rattle.profile.specs.PieceTexts.{taggedLength}
 use Rattle.profile.proofs.WriterLaws.{some-bytes}
-use Rattle.text.proofs.Lists.{length-nil}
 use Rattle.profile.proofs.tagged.bytes_len.Statement.{statement}
 use Rattle.profile.proofs.tagged.bytes_len.Tie as tie
 

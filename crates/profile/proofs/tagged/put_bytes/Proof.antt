@@ -7,12 +7,12 @@ use borrow.Author.Needs.{needs}
 use denote.Ref.{now}
 use lib.ListN.{length, length-append}
 use Rattle.text.specs.Place.{outcome, put, Wrote}
+use Rattle.text.proofs.Wrote.{wrote-nothing, wrote-more}
+use Rattle.text.proofs.Lists.{length-nil}
 use Rattle.b64.specs.B64.{encode}
 use Rattle.profile.specs.Fields.{writeBytes}
 use Rattle.profile.specs.PieceTexts.{tagged}
-use Rattle.text.proofs.Wrote.{wrote-nothing, wrote-more}
 use Rattle.profile.proofs.WriterLaws.{some-bytes}
-use Rattle.text.proofs.Lists.{length-nil}
 use Rattle.profile.proofs.tagged.put_bytes.Statement.{statement}
 use Rattle.profile.proofs.tagged.put_bytes.Tie as tie
 

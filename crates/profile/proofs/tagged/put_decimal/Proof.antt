@@ -7,8 +7,8 @@ use borrow.Author.Needs.{needs}
 use denote.Ref.{now}
 use lib.ListN.{length-append}
 use Rattle.text.specs.Place.{outcome, put, Wrote}
-use Rattle.decimal.specs.Decimal.{digits}
 use Rattle.text.proofs.Wrote.{wrote-more}
+use Rattle.decimal.specs.Decimal.{digits}
 use Rattle.profile.proofs.tagged.put_decimal.Statement.{statement}
 use Rattle.profile.proofs.tagged.put_decimal.Tie as tie
 

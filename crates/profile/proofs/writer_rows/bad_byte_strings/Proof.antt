@@ -5,9 +5,9 @@ use borrow.Author.Needs.{needs}
 use denote.Ref.{now}
 use lib.ListN.{drop}
 use Rattle.text.specs.Rows.{firstOf}
+use Rattle.text.proofs.Lists.{length-filled}
 use Rattle.profile.specs.Writer.{bytesRows}
 use Rattle.profile.proofs.WriterLaws.{unsalted, no-output}
-use Rattle.text.proofs.Lists.{length-filled}
 use Rattle.profile.proofs.writer_rows.bad_byte_strings.Statement.{statement}
 use Rattle.profile.proofs.writer_rows.bad_byte_strings.Tie as tie
 

@@ -5,9 +5,9 @@ use native.Mathlib.Omega.{arith}
 use borrow.Author.Needs.{needs}
 use denote.Ref.{now}
 use lib.ListN.{length}
+use Rattle.text.proofs.Wrote.{wrote-length}
 use Rattle.profile.specs.PieceTexts.{itemsText}
 use Rattle.profile.proofs.Texts.{dollared-length}
-use Rattle.text.proofs.Wrote.{wrote-length}
 use Rattle.profile.proofs.WriterLaws.{wrote-none, wrote-dollar}
 use Rattle.profile.proofs.writer_text.put_params.Statement.{statement}
 use Rattle.profile.proofs.writer_text.put_params.Tie as tie

@@ -4,8 +4,8 @@ use mathlib.Core.Path.{_≡_}
 use native.Mathlib.Omega.{arith}
 use borrow.Author.Needs.{needs}
 use lib.ListN.{length, drop}
-use Rattle.text.specs.Text.{find}
 use denote.Ref.{now}
+use Rattle.text.specs.Text.{find}
 use Rattle.text.proofs.Scanning.{find-past, find-here, find-step}
 use Rattle.text.proofs.scan.next_at.Statement.{statement}
 use Rattle.text.proofs.scan.next_at.Tie as tie
