@@ -30,13 +30,18 @@ fn waiting(out: &[u8], used: usize, count: usize) -> usize
     waits + least(count, out.len() - waits)
 }
 
-// Writes what waits; false where that fails, or where nothing waits: no row fits an empty buffer then.
+// Writes what waits; false where that fails.
 fn flush(out: &[u8], used: usize) -> bool {
+    let n = least(used, out.len());
+    io::write_all(STDOUT_FILENO, &out[0..n])
+}
+
+// Writes what waits, for a row that doesn't fit behind it; false also where nothing waits: the row fits no emptier buffer.
+fn make_room(out: &[u8], used: usize) -> bool {
     if used == 0 {
         return false;
     }
-    let n = least(used, out.len());
-    io::write_all(STDOUT_FILENO, &out[0..n])
+    flush(out, used)
 }
 
 // take_part, where every write so far succeeded.
@@ -69,7 +74,7 @@ fn take_rows(array: &mut [u8; MOST_KEPT], out: &mut [u8], part: &[u8], begun: St
                 };
             }
             Listed::NoRoom => {
-                if !flush(&out[..], used) {
+                if !make_room(&out[..], used) {
                     return State {
                         kept,
                         line,
@@ -106,24 +111,34 @@ pub fn take_part(array: &mut [u8; MOST_KEPT], out: &mut [u8], part: &[u8], begun
     }
 }
 
-// The row of the last line, and what waits. A row that doesn't fit goes into the emptied buffer.
-pub fn finish(array: &[u8; MOST_KEPT], out: &mut [u8], state: State)
+// What waits, without the unfinished line; whether every write succeeded.
+pub fn flush_rows(out: &[u8], state: State) -> bool {
+    if !state.open {
+        return false;
+    }
+    flush(out, state.used)
+}
+
+// The row of the last line, and what waits; whether every write succeeded. A row that doesn't fit goes into the emptied buffer.
+pub fn finish(array: &[u8; MOST_KEPT], out: &mut [u8], state: State) -> bool
     ensures { λ _. ⌜ length (now (out .exit)) ≡ length (now (out .entry)) ⌝ }
 {
     if !state.open {
-        return;
+        return false;
     }
     let used = state.used;
     let w = end(array, state.kept, state.line, out, used);
     if w.number == 0 {
         let count = w.count;
-        flush(&out[..], waiting(&out[..], used, count.0));
-        return;
+        return flush(&out[..], waiting(&out[..], used, count.0));
     }
-    if !flush(&out[..], used) {
-        return;
+    if !make_room(&out[..], used) {
+        return false;
     }
     let again = end(array, state.kept, state.line, out, 0);
+    if again.number != 0 {
+        return false;
+    }
     let count = again.count;
-    flush(&out[..], waiting(&out[..], 0, count.0));
+    flush(&out[..], waiting(&out[..], 0, count.0))
 }
