@@ -1,6 +1,6 @@
 -- The walk's fields as the entries' outcomes: what the reader gives, and all that a string carries.
 -- Assumes nothing.
-use Prim.Native.Nat.{ℕ, _+_, _-_, _≤_}
+use Prim.Native.Nat.{ℕ, _+_, _-_, _≤_, _<_}
 use mathlib.Core.Path.{_≡_, refl, sym, ap, _∙_}
 use mathlib.Core.Bool.{Bool, true, false, cond}
 use mathlib.Core.List.{List, [], _∷_, _++_}
@@ -13,14 +13,15 @@ use borrow.Author.Tests.{eqb-true, ne-eqb}
 use Rattle.text.specs.Place.{Outcome, outcome, refused, over, put, putAfter}
 use Rattle.text.proofs.Over.{over-start, length-over}
 use Rattle.text.proofs.Writing.{put-clear, put-refused}
-use Rattle.profile.specs.Limits.{editionTwo}
+use Rattle.profile.specs.Limits.{editionTwo, room}
 use Rattle.profile.specs.Fields.{FieldSet, writeBytes}
 use Rattle.profile.specs.Reader.{answer, fieldsOf}
 use Rattle.profile.specs.Entries.{kindOf, reading}
 use Rattle.profile.specs.declared.fields.Reading.{Reading}
 use Rattle.profile.proofs.Table.{edition-two-sound}
+use Rattle.profile.proofs.Accepted.{accepted}
 use Rattle.profile.proofs.ReadLaws.{reading-number}
-use Rattle.profile.proofs.Claims.{entries-agree-two}
+use Rattle.profile.proofs.Claims.{lengths, entries-agree-two}
 use Rattle.fast_path.specs.Contents.{joinedBytes, counted, refusedContents, allDecoded, contents}
 use Rattle.fast_path.specs.Walk.{walked}
 use Rattle.fast_path.specs.WalkSteps.{kindFor, contentsOf, StoredAll, total, StoredIs}
@@ -50,6 +51,16 @@ module _ (s : List ℕ) (f : FieldSet) (e : walked editionTwo s ≡ some f) wher
       let z = walked-answer in
       let q : some f ≡ some (fieldsOf editionTwo s) = sym e ∙ walk-agrees editionTwo edition-two-sound s ∙ rw z in
       cc
+
+-- nothing is found in a string that is longer than any permitted one
+pub walked-long : (s : List ℕ) → room < length s → walked editionTwo s ≡ none
+walked-long s h = walk-agrees editionTwo edition-two-sound s ∙ go (eqb (answer editionTwo s) 0) refl
+  where
+    go : (b : Bool) → eqb (answer editionTwo s) 0 ≡ b → cond b (some (fieldsOf editionTwo s)) none ≡ none
+    go true t =
+        let a = accepted editionTwo edition-two-sound s (eqb-true (answer editionTwo s) 0 t) in
+        absurd (omega (arith, lengths .any-most (fieldsOf editionTwo s) (a .0), ap length (a .1)))
+    go false t = refl
 
 -- ---- the reader
 

@@ -2,7 +2,7 @@
 -- Assumes nothing.
 use Prim.Native.Nat.{ℕ, suc, _+_, _-_, _*_, _/_, _≤_, _<_}
 use mathlib.Core.Path.{_≡_, refl}
-use mathlib.Core.Bool.{true, false}
+use mathlib.Core.Bool.{true, false, not}
 use mathlib.Core.List.{List, [], _∷_}
 use mathlib.Core.Option.{Option, none, some}
 use native.Mathlib.Omega.{arith}
@@ -10,15 +10,16 @@ use lib.ListN.{length, take, drop, getD}
 use lib.Seq.{drop-drop}
 use borrow.Author.Tests.{le-leb, lt-leb, ne-eqb}
 use Rattle.text.specs.Text.{text, find, nextAt, startsWith, andThen}
+use Rattle.text.proofs.Tests.{is-true, is-false}
 use Rattle.text.proofs.Prefixes.{rest-at}
-use Rattle.profile.specs.Limits.{Profile, limitsOf, inRange, idOf, profileOf}
+use Rattle.profile.specs.Limits.{Profile, inRange, idOf, profileOf}
+use Rattle.profile.specs.Fields.{leftOut}
 use Rattle.profile.specs.declared.limits.NumberRule.{NumberRule}
 use Rattle.profile.specs.declared.limits.BytesRule.{BytesRule}
-use Rattle.profile.specs.declared.limits.Limits.{Limits}
 use Rattle.profile.specs.declared.fields.Version.{Version}
 use Rattle.profile.specs.declared.fields.Version.the-variants.{Absent, Number}
 use Rattle.profile.specs.declared.fields.Fields.{Fields}
-use Rattle.fast_path.specs.Walk.{Taken, taken, numeralIn, isWritten, writtenNumber, leftOut, numberIn, writtenBytes, bytesIn, allowed, versionIn, numbersIn, headIn, withStrings, afterId, walked}
+use Rattle.fast_path.specs.Walk.{Taken, taken, numeralIn, writtenNumber, unwritten, numberIn, writtenBytes, bytesIn, allowed, versionIn, numbersIn, headIn, withStrings, afterId, walked}
 
 -- ---- a number
 
@@ -26,10 +27,10 @@ module _ (r : NumberRule) (o : Option (ℕ × List ℕ)) (n : ℕ) (t : List ℕ
   pub number-outside : inRange r n ≡ false → andThen o (writtenNumber r) ≡ none
   number-outside h = rw (e, h)
 
-  pub number-unwritten : inRange r n ≡ true → isWritten r n ≡ false → andThen o (writtenNumber r) ≡ none
+  pub number-unwritten : inRange r n ≡ true → leftOut r n ≡ true → andThen o (writtenNumber r) ≡ none
   number-unwritten h w = rw (e, h, w)
 
-  pub number-written : inRange r n ≡ true → isWritten r n ≡ true → andThen o (writtenNumber r) ≡ some (taken n 44 t)
+  pub number-written : inRange r n ≡ true → leftOut r n ≡ false → andThen o (writtenNumber r) ≡ some (taken n 44 t)
   number-written h w = rw (e, h, w)
 
 module _ (r : NumberRule) (name : List ℕ) (separator : ℕ) (s : List ℕ) (at : ℕ) where
@@ -38,7 +39,7 @@ module _ (r : NumberRule) (name : List ℕ) (separator : ℕ) (s : List ℕ) (at
   unfolding numberIn
   number-there e = rw (e, rest-at s name at)
 
-  pub number-absent : startsWith (separator ∷ name) (drop at s) ≡ false → numberIn r name separator (drop at s) ≡ leftOut r separator (drop at s)
+  pub number-absent : startsWith (separator ∷ name) (drop at s) ≡ false → numberIn r name separator (drop at s) ≡ unwritten r separator (drop at s)
   unfolding numberIn
   number-absent e = rw e
 
@@ -55,17 +56,17 @@ module _ (r : BytesRule) (name : List ℕ) (separator : ℕ) (s : List ℕ) (at 
 
 -- ---- the version
 
-module _ (r : Profile) (s : List ℕ) (at : ℕ) where
-  pub version-none : startsWith (text "$v=") (drop at s) ≡ true → numeralIn (drop (at + 3) s) ≡ none → versionIn r (drop at s) ≡ none
+module _ (vs s : List ℕ) (at : ℕ) where
+  pub version-none : startsWith (text "$v=") (drop at s) ≡ true → numeralIn (drop (at + 3) s) ≡ none → versionIn vs (drop at s) ≡ none
   unfolding versionIn
   version-none e q = rw (e, drop-drop 3 at s, q)
 
   pub version-there : startsWith (text "$v=") (drop at s) ≡ true → (n : ℕ) (t : List ℕ) → numeralIn (drop (at + 3) s) ≡ some (n, t)
-      → versionIn r (drop at s) ≡ allowed r (Number n) t
+      → versionIn vs (drop at s) ≡ allowed vs (Number n) t
   unfolding versionIn
   version-there e n t q = rw (e, drop-drop 3 at s, q)
 
-  pub version-absent : startsWith (text "$v=") (drop at s) ≡ false → versionIn r (drop at s) ≡ allowed r Absent (drop at s)
+  pub version-absent : startsWith (text "$v=") (drop at s) ≡ false → versionIn vs (drop at s) ≡ allowed vs Absent (drop at s)
   unfolding versionIn
   version-absent e = rw e
 
@@ -78,50 +79,52 @@ lanes m p h = omega arith
 few : (m p : ℕ) → m / 8 < p → m < 8 * p
 few m p h = omega arith
 
-module _ (l : Limits) (k : ℕ) (v : Version) (s : List ℕ) where
-  pub no-m : numberIn (l .m) (text "m=") 36 s ≡ none → numbersIn l k v s ≡ none
+module _ (r : Profile) (k : ℕ) (v : Version) (s : List ℕ) where
+  pub no-m : numberIn (r .m) (text "m=") 36 s ≡ none → numbersIn r k v s ≡ none
   unfolding numbersIn
   no-m e = rw e
 
-  module _ (m a : ℕ) (t : List ℕ) (e : numberIn (l .m) (text "m=") 36 s ≡ some (taken m a t)) where
-    pub no-t : numberIn (l .t) (text "t=") a t ≡ none → numbersIn l k v s ≡ none
+  module _ (m a : ℕ) (t : List ℕ) (e : numberIn (r .m) (text "m=") 36 s ≡ some (taken m a t)) where
+    pub no-t : numberIn (r .t) (text "t=") a t ≡ none → numbersIn r k v s ≡ none
     unfolding numbersIn
     no-t q = rw (e, q)
 
-    module _ (n b : ℕ) (u : List ℕ) (q : numberIn (l .t) (text "t=") a t ≡ some (taken n b u)) where
-      pub no-p : numberIn (l .p) (text "p=") b u ≡ none → numbersIn l k v s ≡ none
+    module _ (n b : ℕ) (u : List ℕ) (q : numberIn (r .t) (text "t=") a t ≡ some (taken n b u)) where
+      pub no-p : numberIn (r .p) (text "p=") b u ≡ none → numbersIn r k v s ≡ none
       unfolding numbersIn
       no-p w = rw (e, q, w)
 
-      module _ (p c : ℕ) (x : List ℕ) (w : numberIn (l .p) (text "p=") b u ≡ some (taken p c x)) where
-        pub few-kilobytes : m / 8 < p → numbersIn l k v s ≡ none
+      module _ (p c : ℕ) (x : List ℕ) (w : numberIn (r .p) (text "p=") b u ≡ some (taken p c x)) where
+        pub few-kilobytes : m / 8 < p → numbersIn r k v s ≡ none
         unfolding numbersIn
         few-kilobytes h = rw (e, q, w, lt-leb (8 * p) m (few m p h))
 
-        pub all-numbers : p ≤ m / 8 → numbersIn l k v s ≡ some (taken (record { id = k; version = v; m = m; t = n; p = p }) c x)
+        pub all-numbers : p ≤ m / 8 → numbersIn r k v s ≡ some (taken (record { id = k; version = v; m = m; t = n; p = p }) c x)
         unfolding numbersIn
         all-numbers h = rw (e, q, w, le-leb (8 * p) m (lanes m p h))
 
 -- ---- version and numbers
 
-module _ (e : List Profile) (k : ℕ) (s : List ℕ) where
-  pub head-none : versionIn (profileOf e k) s ≡ none → headIn e k s ≡ none
+module _ (r : Profile) (k : ℕ) (s : List ℕ) where
+  pub head-none : versionIn (r .versions) s ≡ none → headIn r k s ≡ none
   unfolding headIn
   head-none q = rw q
 
-  pub head-some : (v : Version) (a : ℕ) (t : List ℕ) → versionIn (profileOf e k) s ≡ some (taken v a t)
-      → headIn e k s ≡ numbersIn (limitsOf (profileOf e k)) k v t
+  pub head-some : (v : Version) (a : ℕ) (t : List ℕ) → versionIn (r .versions) s ≡ some (taken v a t) → headIn r k s ≡ numbersIn r k v t
   unfolding headIn
   head-some v a t q = rw q
 
--- ---- the whole
+  -- ---- the whole
 
-module _ (e : List Profile) (k : ℕ) (z : k ≡ 0 → ⊥) (s : List ℕ) where
-  pub after-none : headIn e k s ≡ none → afterId e k s ≡ none
-  after-none q = rw (ne-eqb k 0 z, q)
+  pub after-unknown : not (r .known) ≡ true → afterId r k s ≡ none
+  after-unknown z = rw (is-false (r .known) z)
 
-  pub after-some : (l : Limits) → l ≡ limitsOf (profileOf e k) → (n : Taken Fields) → headIn e k s ≡ some n → afterId e k s ≡ withStrings l n
-  after-some l w n q = rw (ne-eqb k 0 z, q, w)
+  module _ (z : not (r .known) ≡ false) where
+    pub after-none : headIn r k s ≡ none → afterId r k s ≡ none
+    after-none q = rw (q, is-true (r .known) z)
+
+    pub after-some : (n : Taken Fields) → headIn r k s ≡ some n → afterId r k s ≡ withStrings r n
+    after-some n q = rw (q, is-true (r .known) z)
 
 pub walked-empty : (e : List Profile) (s : List ℕ) → length s ≡ 0 → walked e s ≡ none
 unfolding walked
@@ -134,7 +137,7 @@ walked-other e [] h n = refl
 walked-other e (c ∷ s) h n = rw (ne-eqb c 36 n)
 
 pub walked-id : (e : List Profile) (s : List ℕ) (end : ℕ) → (length s ≡ 0 → ⊥) → getD s 0 0 ≡ 36 → end ≡ nextAt 36 s 1
-    → walked e s ≡ afterId e (idOf e (take (end - 1) (drop 1 s))) (drop end s)
+    → let k = idOf e (take (end - 1) (drop 1 s)) in walked e s ≡ afterId (profileOf e k) k (drop end s)
 unfolding walked
 walked-id e [] end h n q = absurd (h refl)
 walked-id e (c ∷ s) end h n q =

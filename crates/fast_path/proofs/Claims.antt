@@ -32,10 +32,10 @@ fast-path-agrees =
           let r = profileOf editionTwo (f .numbers .id) in
           omega (
             arith,
-            at-most (r .keyid) (f .keyid) (h .keyid),
-            at-most (r .ad) (f .ad) (h .ad),
-            at-most (r .salt) (f .salt) (h .salt),
-            at-most (r .output) (f .output) (h .output),
+            at-most (r .keyid) (f .keyid) (h .column .keyid),
+            at-most (r .ad) (f .ad) (h .column .ad),
+            at-most (r .salt) (f .salt) (h .column .salt),
+            at-most (r .output) (f .output) (h .column .output),
             roomy-two (f .numbers .id),
             length-append (f .keyid) (f .ad ++ (f .salt ++ f .output)),
             length-append (f .ad) (f .salt ++ f .output),

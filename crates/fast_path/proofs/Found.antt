@@ -12,16 +12,15 @@ use Rattle.text.specs.Text.{text, all, empty, find, isByte, startsWith}
 use Rattle.text.proofs.Starts.{starts-is}
 use Rattle.text.proofs.Options.{Holds, holds-then, holds-map, holds-if}
 use Rattle.text.proofs.Lists.{empty-nil}
-use Rattle.profile.specs.Limits.{Profile, limitsOf, inRange, versionAllowed, idOf, profileOf}
+use Rattle.profile.specs.Limits.{Profile, inRange, versionAllowed, idOf, profileOf}
 use Rattle.profile.specs.Fields.{FieldSet, fieldSet, writeBytes, writeVersion}
 use Rattle.profile.specs.Sound.{soundNumber, sound}
-use Rattle.profile.specs.Writer.{bytesAllowed, OfBytes, Permitted, formatted}
+use Rattle.profile.specs.Writer.{bytesAllowed, OfBytes, Allows, Permitted, formatted}
 use Rattle.profile.specs.PieceTexts.{tagged, piecesText}
-use Rattle.profile.specs.declared.limits.Limits.{Limits}
 use Rattle.profile.specs.declared.fields.Version.{Version}
 use Rattle.profile.specs.declared.fields.Fields.{Fields}
 use Rattle.profile.proofs.Texts.{formatted-is}
-use Rattle.profile.proofs.Kept.{Kept, here, permitted-of}
+use Rattle.profile.proofs.Allows.{here}
 use Rattle.profile.proofs.Table.{Entry, entry-at, name-of}
 use Rattle.fast_path.specs.Walk.{Taken, versionIn, numbersIn, Pair, pairIn, keysIn, hashesIn, headIn, afterId, walked}
 use Rattle.fast_path.proofs.ItemTexts.{items, Stands, stands-append, costItems, keyItems, fiveItems, hashesText, restText, pieces-row}
@@ -29,23 +28,23 @@ use Rattle.fast_path.proofs.Stands.{number-then, bytes-then, VersionSta
 
 -- ---- the numbers, and the byte strings two by two
 
-record NumbersStand (l : Limits) (k : ℕ) (v : Version) (s : List ℕ) (x : Taken Fields) : Type 0 where
+record NumbersStand (r : Profile) (k : ℕ) (v : Version) (s : List ℕ) (x : Taken Fields) : Type 0 where
   id : x .found .id ≡ k
   version : x .found .version ≡ v
-  m : inRange (l .m) (x .found .m) ≡ true
-  t : inRange (l .t) (x .found .t) ≡ true
-  p : inRange (l .p) (x .found .p) ≡ true
+  m : inRange (r .m) (x .found .m) ≡ true
+  t : inRange (r .t) (x .found .t) ≡ true
+  p : inRange (r .p) (x .found .p) ≡ true
   lanes : 8 * x .found .p ≤ x .found .m
-  stands : Stands 36 (costItems l (x .found)) s (x .separator) (x .rest)
+  stands : Stands 36 (costItems r (x .found)) s (x .separator) (x .rest)
 
-numbers-stand : (l : Limits) (k : ℕ) (v : Version) (s : List ℕ) → soundNumber (l .m) ≡ true → soundNumber (l .t) ≡ true → soundNumber (l .p) ≡ true
-    → Holds (NumbersStand l k v s) (numbersIn l k v s)
+numbers-stand : (r : Profile) (k : ℕ) (v : Version) (s : List ℕ) → soundNumber (r .m) ≡ true → soundNumber (r .t) ≡ true → soundNumber (r .p) ≡ true
+    → Holds (NumbersStand r k v s) (numbersIn r k v s)
 unfolding numbersIn
-numbers-stand l k v s sm st sp =
-    let Q = NumbersStand l k v s in
-    number-then Q (l .m) sm (text "m=") 36 s _ (λ m hm.
-    number-then Q (l .t) st (text "t=") (m .separator) (m .rest) _ (λ t ht.
-    number-then Q (l .p) sp (text "p=") (t .separator) (t .rest) _ (λ p hp.
+numbers-stand r k v s sm st sp =
+    let Q = NumbersStand r k v s in
+    number-then Q (r .m) sm (text "m=") 36 s _ (λ m hm.
+    number-then Q (r .t) st (text "t=") (m .separator) (m .rest) _ (λ t ht.
+    number-then Q (r .p) sp (text "p=") (t .separator) (t .rest) _ (λ p hp.
     holds-if Q (leb (8 * p .found) (m .found)) _ _
     (λ e. record {
       id = refl;
@@ -58,19 +57,19 @@ numbers-stand l k v s sm st sp =
     })
     (λ e. tt))))
 
-record KeysStand (l : Limits) (separator : ℕ) (s : List ℕ) (x : Taken Pair) : Type 0 where
-  keyid : bytesAllowed (l .keyid) (x .found .first) ≡ true
-  ad : bytesAllowed (l .ad) (x .found .second) ≡ true
+record KeysStand (r : Profile) (separator : ℕ) (s : List ℕ) (x : Taken Pair) : Type 0 where
+  keyid : bytesAllowed (r .keyid) (x .found .first) ≡ true
+  ad : bytesAllowed (r .ad) (x .found .second) ≡ true
   keyid-bytes : all isByte (x .found .first) ≡ true
   ad-bytes : all isByte (x .found .second) ≡ true
   stands : Stands separator (keyItems (x .found .first) (x .found .second)) s (x .separator) (x .rest)
 
-keys-stand : (l : Limits) (separator : ℕ) (s : List ℕ) → Holds (KeysStand l separator s) (keysIn l separator s)
+keys-stand : (r : Profile) (separator : ℕ) (s : List ℕ) → Holds (KeysStand r separator s) (keysIn r separator s)
 unfolding pairIn
-keys-stand l separator s =
-    let Q = KeysStand l separator s in
-    bytes-then Q (l .keyid) (text "keyid=") separator s _ (λ k hk.
-    bytes-then Q (l .ad) (text "data=") (k .separator) (k .rest) _ (λ d hd.
+keys-stand r separator s =
+    let Q = KeysStand r separator s in
+    bytes-then Q (r .keyid) (text "keyid=") separator s _ (λ k hk.
+    bytes-then Q (r .ad) (text "data=") (k .separator) (k .rest) _ (λ d hd.
     record {
       keyid = hk .permitted;
       ad = hd .permitted;
@@ -79,9 +78,9 @@ keys-stand l separator s =
       stands = stands-append (hk .stands) (hd .stands);
     }))
 
-record HashesStand (l : Limits) (s : List ℕ) (x : Taken Pair) : Type 0 where
-  salt : bytesAllowed (l .salt) (x .found .first) ≡ true
-  output : bytesAllowed (l .output) (x .found .second) ≡ true
+record HashesStand (r : Profile) (s : List ℕ) (x : Taken Pair) : Type 0 where
+  salt : bytesAllowed (r .salt) (x .found .first) ≡ true
+  output : bytesAllowed (r .output) (x .found .second) ≡ true
   salt-bytes : all isByte (x .found .first) ≡ true
   output-bytes : all isByte (x .found .second) ≡ true
   order : (empty (x .found .first) && not (empty (x .found .second))) ≡ false
@@ -93,12 +92,12 @@ ordered : (salt output s rest : List ℕ) → s ≡ tagged (text "$") (writeByte
 ordered [] output s rest e p q = rw (q, ← e, ← p)
 ordered (b ∷ salt) output s rest e p q = refl
 
-hashes-stand : (l : Limits) (s : List ℕ) → Holds (HashesStand l s) (hashesIn l s)
+hashes-stand : (r : Profile) (s : List ℕ) → Holds (HashesStand r s) (hashesIn r s)
 unfolding pairIn
-hashes-stand l s =
-    let Q = HashesStand l s in
-    bytes-then Q (l .salt) [] 36 s _ (λ a ha.
-    bytes-then Q (l .output) [] 36 (a .rest) _ (λ o ho.
+hashes-stand r s =
+    let Q = HashesStand r s in
+    bytes-then Q (r .salt) [] 36 s _ (λ a ha.
+    bytes-then Q (r .output) [] 36 (a .rest) _ (λ o ho.
     record {
       salt = ha .permitted;
       output = ho .permitted;
@@ -114,25 +113,23 @@ hashes-stand l s =
 
 -- the version and the numbers, of the entry r
 record HeadStands (r : Profile) (k : ℕ) (s : List ℕ) (x : Taken Fields) : Type 0 where
-  version : versionAllowed r (x .found .version) ≡ true
+  version : versionAllowed (r .versions) (x .found .version) ≡ true
   middle : List ℕ
   here : s ≡ tagged (text "$") (writeVersion (x .found .version)) ++ middle
-  numbers : NumbersStand (limitsOf r) k (x .found .version) middle x
+  numbers : NumbersStand r k (x .found .version) middle x
 
-head-stands : (e : List Profile) (k : ℕ) (s : List ℕ) → Entry e k (profileOf e k) → Holds (HeadStands (profileOf e k) k s) (headIn e k s)
+head-stands : (e : List Profile) (r : Profile) (k : ℕ) (s : List ℕ) → Entry e k r → Holds (HeadStands r k s) (headIn r k s)
 unfolding headIn
-head-stands e k s E =
-    let r = profileOf e k in
-    let l = limitsOf r in
-    holds-then (VersionStands r s) (HeadStands r k s) (versionIn r s) _ (version-stands r s) (λ v hv.
-    holds-map (NumbersStand l k (v .found) (v .rest)) (HeadStands r k s) (numbersIn l k (v .found) (v .rest))
-    (numbers-stand l k (v .found) (v .rest) (E .m) (E .t) (E .p)) (λ x h.
+head-stands e r k s E =
+    holds-then (VersionStands (r .versions) s) (HeadStands r k s) (versionIn (r .versions) s) _ (version-stands (r .versions) s) (λ v hv.
+    holds-map (NumbersStand r k (v .found) (v .rest)) (HeadStands r k s) (numbersIn r k (v .found) (v .rest))
+    (numbers-stand r k (v .found) (v .rest) (E .m) (E .t) (E .p)) (λ x h.
     let q = sym (h .version) in
     record {
-      version = subst (λ (w : Version). versionAllowed r w ≡ true) q (hv .0);
+      version = subst (λ (w : Version). versionAllowed (r .versions) w ≡ true) q (hv .0);
       middle = v .rest;
       here = subst (λ (w : Version). s ≡ tagged (text "$") (writeVersion w) ++ v .rest) q (hv .1);
-      numbers = subst (λ (w : Version). NumbersStand l k w (v .rest) x) q h;
+      numbers = subst (λ (w : Version). NumbersStand r k w (v .rest) x) q h;
     }))
 
 -- the fields f are permitted, and written to s
@@ -140,32 +137,30 @@ abbrev Found : List Profile → List ℕ → FieldSet → Type 0
 Found e s f = Permitted e f × (formatted e f ≡ s)
 
 -- from the entry of their id
-found : (e : List Profile) (s : List ℕ) (f : FieldSet) (r : Profile) → here e f ≡ r → Kept r f → OfBytes f → piecesText (limitsOf r) (r .name) f ≡ s → Found e s f
+found : (e : List Profile) (s : List ℕ) (f : FieldSet) (r : Profile) → here e f ≡ r → Allows r f → OfBytes f → piecesText r f ≡ s → Found e s f
 found e s f r q k b t =
-    (permitted-of e f (subst (λ (r : Profile). Kept r f) (sym q) k) b, formatted-is e f ∙ ap (λ (r : Profile). piecesText (limitsOf r) (r .name) f) q ∙ t)
+    (record { column = subst (λ (r : Profile). Allows r f) (sym q) k; bytes = b }, formatted-is e f ∙ ap (λ (r : Profile). piecesText r f) q ∙ t)
 
 module _ (e : List Profile) (ok : sound e ≡ true) where
   -- what is found behind the name of an id
-  after-id-stands : (s name u : List ℕ) → s ≡ (36 ∷ name) ++ u → Holds (Found e s) (afterId e (idOf e name) u)
+  after-id-stands : (s name u : List ℕ) → s ≡ (36 ∷ name) ++ u → Holds (Found e s) (afterId (profileOf e (idOf e name)) (idOf e name) u)
   after-id-stands s name u q =
       let k = idOf e name in
       let r = profileOf e k in
-      let l = limitsOf r in
-      holds-if (Found e s) (eqb k 0) _ _ (λ z. tt) (λ z.
-      let N = name-of e name z in
-      holds-then (HeadStands r k u) (Found e s) (headIn e k u) _ (head-stands e k u (entry-at e ok k (N .1))) (λ n hn.
-      holds-then (KeysStand l (n .separator) (n .rest)) (Found e s) (keysIn l (n .separator) (n .rest)) _ (keys-stand l (n .separator) (n .rest)) (λ y hy.
-      holds-then (HashesStand l (y .rest)) (Found e s) (hashesIn l (y .rest)) _ (hashes-stand l (y .rest)) (λ h hh.
+      holds-if (Found e s) (r .known) _ _ (λ known.
+      holds-then (HeadStands r k u) (Found e s) (headIn r k u) _ (head-stands e r k u (entry-at e ok k known)) (λ n hn.
+      holds-then (KeysStand r (n .separator) (n .rest)) (Found e s) (keysIn r (n .separator) (n .rest)) _ (keys-stand r (n .separator) (n .rest)) (λ y hy.
+      holds-then (HashesStand r (y .rest)) (Found e s) (hashesIn r (y .rest)) _ (hashes-stand r (y .rest)) (λ h hh.
       holds-if (Found e s) (empty (h .rest)) _ _ (λ z.
       let c = hn .numbers in
       let f = fieldSet (n .found) (y .found .first) (y .found .second) (h .found .first) (h .found .second) in
       let row = stands-append (c .stands) (hy .stands) in
-      let same-rest : u ≡ restText l f =
+      let same-rest : u ≡ restText r f =
       hn .here ∙ ap (λ (x : List ℕ). tagged (text "$") (writeVersion (n .found .version)) ++ x)
-      (row .here ∙ ap (items 36 (fiveItems l (n .found) (y .found .first) (y .found .second))) (hh .stands z)) in
+      (row .here ∙ ap (items 36 (fiveItems r (n .found) (y .found .first) (y .found .second))) (hh .stands z)) in
       found e s f r (ap (profileOf e) (c .id)) (
       record {
-        id = N .1;
+        id = known;
         version = hn .version;
         m = c .m;
         t = c .t;
@@ -178,7 +173,7 @@ module _ (e : List Profile) (ok : sound e ≡ true) where
         order = hh .order;
       }
       ) (hy .keyid-bytes, hy .ad-bytes, hh .salt-bytes, hh .output-bytes)
-      (pieces-row l (r .name) f ∙ ap (λ (x : List ℕ). 36 ∷ (x ++ restText l f)) (N .0) ∙ ap (λ (x : List ℕ). 36 ∷ (name ++ x)) (sym same-rest) ∙ sym q)) (λ z. tt)))))
+      (pieces-row r f ∙ ap (λ (x : List ℕ). 36 ∷ (x ++ restText r f)) (name-of e name known) ∙ ap (λ (x : List ℕ). 36 ∷ (name ++ x)) (sym same-rest) ∙ sym q)) (λ z. tt))))) (λ z. tt)
 
   walked-stands : (s : List ℕ) → Holds (Found e s) (walked e s)
   unfolding walked

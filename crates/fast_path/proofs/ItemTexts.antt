@@ -10,10 +10,10 @@ use Rattle.text.specs.Text.{text, all, has, startsWith}
 use Rattle.text.proofs.Tests.{both}
 use Rattle.text.proofs.Starts.{starts-without, Begins, differ, starts-differ}
 use Rattle.grammar.specs.Pieces.{Slot}
+use Rattle.profile.specs.Limits.{Profile}
 use Rattle.profile.specs.Fields.{FieldSet, writeNumber, writeBytes, writeVersion}
 use Rattle.profile.specs.PieceTexts.{tagged, itemsText, dollared, piecesText}
 use Rattle.profile.specs.declared.fields.Fields.{Fields}
-use Rattle.profile.specs.declared.limits.Limits.{Limits}
 use Rattle.fast_path.proofs.Closed.{Separator, Closed}
 
 -- a name with its equals sign, and the text that stands behind it
@@ -128,38 +128,38 @@ starts-fresh a b name l rest h e = go l (q .1)
 
 -- ---- the writer's string
 
-abbrev pub costItems : Limits → Fields → List Named
-costItems l n =
-    (text "m=", writeNumber (l .m) (n .m))
-    ∷ (text "t=", writeNumber (l .t) (n .t))
-    ∷ (text "p=", writeNumber (l .p) (n .p))
+abbrev pub costItems : Profile → Fields → List Named
+costItems r n =
+    (text "m=", writeNumber (r .m) (n .m))
+    ∷ (text "t=", writeNumber (r .t) (n .t))
+    ∷ (text "p=", writeNumber (r .p) (n .p))
     ∷ []
 
 abbrev pub keyItems : List ℕ → List ℕ → List Named
 keyItems keyid ad = (text "keyid=", writeBytes keyid) ∷ (text "data=", writeBytes ad) ∷ []
 
-abbrev pub fiveItems : Limits → Fields → List ℕ → List ℕ → List Named
-fiveItems l n keyid ad = costItems l n ++ keyItems keyid ad
+abbrev pub fiveItems : Profile → Fields → List ℕ → List ℕ → List Named
+fiveItems r n keyid ad = costItems r n ++ keyItems keyid ad
 
 abbrev pub hashesText : List ℕ → List ℕ → List ℕ
 hashesText salt output = tagged (text "$") (writeBytes salt) ++ (tagged (text "$") (writeBytes output) ++ [])
 
 -- what stands behind the id
-abbrev pub restText : Limits → FieldSet → List ℕ
-restText l f =
+abbrev pub restText : Profile → FieldSet → List ℕ
+restText r f =
     tagged (text "$") (writeVersion (f .numbers .version))
-    ++ items 36 (fiveItems l (f .numbers) (f .keyid) (f .ad)) (hashesText (f .salt) (f .output))
+    ++ items 36 (fiveItems r (f .numbers) (f .keyid) (f .ad)) (hashesText (f .salt) (f .output))
 
-five : (l : Limits) (n : Fields) (keyid ad : List ℕ) → itemsText l n keyid ad ≡ items 44 (fiveItems l n keyid ad) []
-five l n keyid ad = simp (comma, append-assoc, append-nil)
+five : (r : Profile) (n : Fields) (keyid ad : List ℕ) → itemsText r n keyid ad ≡ items 44 (fiveItems r n keyid ad) []
+five r n keyid ad = simp (comma, append-assoc, append-nil)
 
 row : (a b c d e : List ℕ) → a ++ b ++ c ++ d ++ e ≡ a ++ (b ++ (c ++ (d ++ (e ++ []))))
 row a b c d e = simp (append-assoc, append-nil)
 
-pub pieces-row : (l : Limits) (name : List ℕ) (f : FieldSet) → piecesText l name f ≡ (36 ∷ name) ++ restText l f
-pieces-row l name f =
+pub pieces-row : (r : Profile) (f : FieldSet) → piecesText r f ≡ (36 ∷ r .name) ++ restText r f
+pieces-row r f =
     let v = tagged (text "$") (writeVersion (f .numbers .version)) in
     let h = hashesText (f .salt) (f .output) in
-    row (36 ∷ name) v (dollared (itemsText l (f .numbers) (f .keyid) (f .ad))) (tagged (text "$") (writeBytes (f .salt))) (tagged (text "$") (writeBytes (f .output)))
-    ∙ ap (λ (x : List ℕ). (36 ∷ name) ++ (v ++ x))
-    (ap (λ (x : List ℕ). dollared x ++ h) (five l (f .numbers) (f .keyid) (f .ad)) ∙ dollared-items (fiveItems l (f .numbers) (f .keyid) (f .ad)) h)
+    row (36 ∷ r .name) v (dollared (itemsText r (f .numbers) (f .keyid) (f .ad))) (tagged (text "$") (writeBytes (f .salt))) (tagged (text "$") (writeBytes (f .output)))
+    ∙ ap (λ (x : List ℕ). (36 ∷ r .name) ++ (v ++ x))
+    (ap (λ (x : List ℕ). dollared x ++ h) (five r (f .numbers) (f .keyid) (f .ad)) ∙ dollared-items (fiveItems r (f .numbers) (f .keyid) (f .ad)) h)

@@ -18,8 +18,8 @@ use Rattle.b64.specs.B64.{inAlphabet, canonical, decode, encode}
 use Rattle.b64.proofs.B64Laws.{encode-decode, bytes-decode}
 use Rattle.decimal.specs.Decimal.{isDigit, isUnsigned, value, digits}
 use Rattle.decimal.proofs.DecimalLaws.{digits-value}
-use Rattle.profile.specs.Limits.{Profile, inRange, isSize, versionAllowed, largest32}
-use Rattle.profile.specs.Fields.{writeNumber, writeBytes, writeVersion}
+use Rattle.profile.specs.Limits.{inRange, isSize, versionAllowed, largest32}
+use Rattle.profile.specs.Fields.{leftOut, writeNumber, writeBytes, writeVersion}
 use Rattle.profile.specs.Sound.{soundNumber}
 use Rattle.profile.specs.Writer.{bytesAllowed}
 use Rattle.profile.specs.PieceTexts.{tagged}
@@ -28,7 +28,7 @@ use Rattle.profile.specs.declared.limits.NumberRule.the-variants.{Needed, Omitt
 use Rattle.profile.specs.declared.limits.BytesRule.{BytesRule}
 use Rattle.profile.specs.declared.fields.Version.{Version}
 use Rattle.profile.specs.declared.fields.Version.the-variants.{Absent, Number}
-use Rattle.fast_path.specs.Walk.{Taken, numeralIn, isWritten, writtenNumber, leftOut, numberIn, bytesIn, allowed, versionIn}
+use Rattle.fast_path.specs.Walk.{Taken, numeralIn, writtenNumber, unwritten, numberIn, bytesIn, allowed, versionIn}
 use Rattle.fast_path.proofs.ItemTexts.{Stands}
 
 -- ---- one number
@@ -41,15 +41,13 @@ numeral-stands t =
     (λ h. run-is isDigit t ∙ ap (λ (l : List ℕ). l ++ drop (length d) t) (sym (digits-value d (both (isUnsigned d) (leb (value d) largest32) h .0))))
     (λ h. tt)
 
-written-slot : (r : NumberRule) (n : ℕ) → isWritten r n ≡ true → writeNumber r n ≡ some (digits n)
-written-slot (Needed low high) n e = refl
-written-slot (Omitted low high given) n e = rw (is-false (eqb n given) e)
-written-slot (Fixed given) n e = absurd (false≢true e)
+written-slot : (r : NumberRule) (n : ℕ) → not (leftOut r n) ≡ true → writeNumber r n ≡ some (digits n)
+written-slot r n e = rw (is-false (leftOut r n) e)
 
 abbrev pub NumberStands : NumberRule → List ℕ → ℕ → List ℕ → Taken ℕ → Type 0
 NumberStands r name separator t x = (inRange r (x .found) ≡ true) × Stands separator ((name, writeNumber r (x .found)) ∷ []) t (x .separator) (x .rest)
 
-left-stands : (r : NumberRule) → soundNumber r ≡ true → (name : List ℕ) (separator : ℕ) (t : List ℕ) → Holds (NumberStands r name separator t) (leftOut r separator t)
+left-stands : (r : NumberRule) → soundNumber r ≡ true → (name : List ℕ) (separator : ℕ) (t : List ℕ) → Holds (NumberStands r name separator t) (unwritten r separator t)
 left-stands (Needed low high) k name separator t = tt
 left-stands (Omitted low high given) k name separator t =
     let e = eq-eqb given given refl in
@@ -62,8 +60,8 @@ number-stands r k name separator t =
     let u = drop (suc (length name)) t in
     holds-if _ (startsWith (separator ∷ name) t) _ _
     (λ s. holds-then (λ (y : ℕ × List ℕ). u ≡ digits (y .0) ++ y .1) _ (numeralIn u) (writtenNumber r) (numeral-stands u) (λ y h.
-    holds-if _ (inRange r (y .0) && isWritten r (y .0)) _ _
-    (λ e. let q = both (inRange r (y .0)) (isWritten r (y .0)) e in
+    holds-if _ (inRange r (y .0) && not (leftOut r (y .0))) _ _
+    (λ e. let q = both (inRange r (y .0)) (not (leftOut r (y .0))) e in
     let w = written-slot r (y .0) (q .1) in
     (q .0, record { here = rw w (starts-behind (separator ∷ name) t (digits (y .0)) (y .1) s h); after = rw w }))
     (λ e. tt)))
@@ -114,14 +112,14 @@ bytes-then Q r name separator t f h = holds-then (BytesStand r name separator t)
 
 -- ---- the version
 
-abbrev pub VersionStands : Profile → List ℕ → Taken Version → Type 0
-VersionStands r t x = (versionAllowed r (x .found) ≡ true) × (t ≡ tagged (text "$") (writeVersion (x .found)) ++ x .rest)
+abbrev pub VersionStands : List ℕ → List ℕ → Taken Version → Type 0
+VersionStands vs t x = (versionAllowed vs (x .found) ≡ true) × (t ≡ tagged (text "$") (writeVersion (x .found)) ++ x .rest)
 
-pub version-stands : (r : Profile) (t : List ℕ) → Holds (VersionStands r t) (versionIn r t)
+pub version-stands : (vs t : List ℕ) → Holds (VersionStands vs t) (versionIn vs t)
 unfolding versionIn
-version-stands r t =
+version-stands vs t =
     let u = drop 3 t in
     holds-if _ (startsWith (text "$v=") t) _ _
-    (λ s. holds-then (λ (y : ℕ × List ℕ). u ≡ digits (y .0) ++ y .1) _ (numeralIn u) (λ (y : ℕ × List ℕ). allowed r (Number (y .0)) (y .1)) (numeral-stands u) (λ y h.
-    holds-if _ (versionAllowed r (Number (y .0))) _ _ (λ e. (e, starts-behind (text "$v=") t (digits (y .0)) (y .1) s h)) (λ e. tt)))
-    (λ s. holds-if _ (versionAllowed r Absent) _ _ (λ e. (e, refl)) (λ e. tt))
+    (λ s. holds-then (λ (y : ℕ × List ℕ). u ≡ digits (y .0) ++ y .1) _ (numeralIn u) (λ (y : ℕ × List ℕ). allowed vs (Number (y .0)) (y .1)) (numeral-stands u) (λ y h.
+    holds-if _ (versionAllowed vs (Number (y .0))) _ _ (λ e. (e, starts-behind (text "$v=") t (digits (y .0)) (y .1) s h)) (λ e. tt)))
+    (λ s. (refl, refl))

@@ -1,6 +1,6 @@
 -- Byte strings, one after the other: what the walk finds, and what stands in the buffer.
 -- Assumes nothing.
-use Prim.Native.Nat.{ℕ, zero, suc, _+_, _-_, _≤_, _<_}
+use Prim.Native.Nat.{ℕ, _+_, _-_, _≤_, _<_}
 use mathlib.Core.Path.{_≡_, refl, sym, ap, _∙_}
 use mathlib.Core.Bool.{Bool, true, false, not, cond, _&&_, and-false}
 use mathlib.Core.List.{List, [], _∷_, _++_, append-assoc}
@@ -9,19 +9,19 @@ use native.Mathlib.Omega.{arith}
 use lib.Dec.{leb}
 use lib.ListN.{length, drop, length-drop, length-append}
 use lib.Seq.{drop-drop, drop-length}
-use borrow.Author.Tests.{lt-leb}
-use Rattle.text.specs.Text.{empty, startsWith}
+use borrow.Author.Tests.{lt-leb, leb-true}
+use Rattle.text.specs.Text.{all, empty, startsWith}
 use Rattle.text.specs.Place.{over}
 use Rattle.text.proofs.Tests.{from-within}
+use Rattle.text.proofs.Table.{always}
 use Rattle.text.proofs.Over.{over-nil, length-over, over-after}
 use Rattle.text.proofs.Runs.{run-length}
 use Rattle.text.proofs.Lists.{length-empty, length-filled}
 use Rattle.b64.specs.B64.{inAlphabet, canonical}
-use Rattle.profile.specs.Limits.{isSize, limitsOf, profileOf, editionTwo}
+use Rattle.profile.specs.Limits.{Profile, isSize, nobody, profileOf, editionTwo}
 use Rattle.profile.specs.Fields.{FieldSet, fieldSet}
 use Rattle.profile.specs.declared.limits.BytesRule.{BytesRule}
 use Rattle.profile.specs.declared.limits.BytesRule.the-variants.{Sized, Barred}
-use Rattle.profile.specs.declared.limits.Limits.{Limits}
 use Rattle.profile.specs.declared.fields.Fields.{Fields}
 use Rattle.fast_path.specs.Walk.{Taken, taken, writtenBytes, bytesIn, Pair, pairIn, keysIn, hashesIn, withStrings}
 use Rattle.fast_path.specs.WalkSteps.{textAt, bytesAt, Ran, most, Stored, StoredTwo, contentsFor, roomy, StoredAll}
@@ -132,26 +132,26 @@ module _ (a : BytesRule) (a-name : List ℕ) (b : BytesRule) (b-name : List ℕ)
 
 -- ---- all four
 
-module _ (l : Limits) (f : Fields) (separator : ℕ) (s : List ℕ) (at : ℕ) (out₀ : List ℕ) where
-  pub no-keys : keysIn l separator (drop at s) ≡ none → withStrings l (taken f separator (drop at s)) ≡ none
+module _ (r : Profile) (f : Fields) (separator : ℕ) (s : List ℕ) (at : ℕ) (out₀ : List ℕ) where
+  pub no-keys : keysIn r separator (drop at s) ≡ none → withStrings r (taken f separator (drop at s)) ≡ none
   no-keys e = rw e
 
-  module _ (out₁ : List ℕ) (next k d : ℕ) (x : StoredTwo (keysIn l separator (drop at s)) (most (l .keyid) + most (l .ad)) s out₀ 0 out₁ next k d) where
-    pub no-hashes : hashesIn l (drop next s) ≡ none → withStrings l (taken f separator (drop at s)) ≡ none
+  module _ (out₁ : List ℕ) (next k d : ℕ) (x : StoredTwo (keysIn r separator (drop at s)) (most (r .keyid) + most (r .ad)) s out₀ 0 out₁ next k d) where
+    pub no-hashes : hashesIn r (drop next s) ≡ none → withStrings r (taken f separator (drop at s)) ≡ none
     no-hashes e = rw (x .found, e)
 
-    module _ (out₂ : List ℕ) (last e g : ℕ) (y : StoredTwo (hashesIn l (drop next s)) (most (l .salt) + most (l .output)) s out₁ d out₂ last e g) where
+    module _ (out₂ : List ℕ) (last e g : ℕ) (y : StoredTwo (hashesIn r (drop next s)) (most (r .salt) + most (r .output)) s out₁ d out₂ last e g) where
       found : FieldSet
       found = fieldSet f (x .pair .first) (x .pair .second) (y .pair .first) (y .pair .second)
 
       pub ordered : (k ≤ d) × (d ≤ e) × (e ≤ g)
       ordered = (omega (arith, x .end-is), omega (arith, y .middle-is), omega (arith, y .end-is))
 
-      pub text-left : (last ≡ length s → ⊥) → withStrings l (taken f separator (drop at s)) ≡ none
+      pub text-left : (last ≡ length s → ⊥) → withStrings r (taken f separator (drop at s)) ≡ none
       text-left h = rw (x .found, y .found, length-filled (drop last s) (λ z. h (omega (arith, length-drop last s, y .inside))))
 
-      pub all-strings : roomy l ≤ length out₀ → last ≡ length s → (c : Contents) → c ≡ contentsFor f k (d - k) (e - d) (g - e)
-          → StoredAll (withStrings l (taken f separator (drop at s))) out₀ out₂ c
+      pub all-strings : roomy r ≤ length out₀ → last ≡ length s → (c : Contents) → c ≡ contentsFor f k (d - k) (e - d) (g - e)
+          → StoredAll (withStrings r (taken f separator (drop at s))) out₀ out₂ c
       unfolding found
       all-strings room h c q =
           let z : drop last s ≡ [] = ap (λ (i : ℕ). drop i s) h ∙ drop-length s in
@@ -180,12 +180,13 @@ module _ (l : Limits) (f : Fields) (separator : ℕ) (s : List ℕ) (at : ℕ) (
           }
 
 -- the byte strings of every profile of edition two fit
-pub roomy-two : (k : ℕ) → roomy (limitsOf (profileOf editionTwo k)) ≤ mostBytes + 2
-unfolding editionTwo
-roomy-two zero = omega arith
-roomy-two (suc zero) = omega arith
-roomy-two (suc (suc zero)) = omega arith
-roomy-two (suc (suc (suc zero))) = omega arith
-roomy-two (suc (suc (suc (suc zero)))) = omega arith
-roomy-two (suc (suc (suc (suc (suc zero))))) = omega arith
-roomy-two (suc (suc (suc (suc (suc (suc k)))))) = omega arith
+fits-most : Profile → Bool
+fits-most r = leb (roomy r) (mostBytes + 2)
+
+all-fit : all fits-most (nobody ∷ editionTwo) ≡ true
+unfolding fits-most editionTwo
+all-fit = refl
+
+pub roomy-two : (k : ℕ) → roomy (profileOf editionTwo k) ≤ mostBytes + 2
+unfolding fits-most
+roomy-two k = leb-true (roomy (profileOf editionTwo k)) (mostBytes + 2) (always fits-most nobody (nobody ∷ editionTwo) refl all-fit k)

@@ -21,8 +21,8 @@ use Rattle.b64.proofs.B64Laws.{canonical-alphabet, decode-encode, canonical-enc
 use Rattle.decimal.specs.Decimal.{isDigit, isUnsigned, digits}
 use Rattle.decimal.proofs.DecimalLaws.{unsigned-cases, value-digits, digits-unsigned}
 use Rattle.grammar.specs.Limits.{largestVersion}
-use Rattle.profile.specs.Limits.{Profile, inRange, versionAllowed, largest32}
-use Rattle.profile.specs.Fields.{writeNumber, writeBytes, writeVersion}
+use Rattle.profile.specs.Limits.{inRange, versionAllowed, largest32}
+use Rattle.profile.specs.Fields.{leftOut, writeNumber, writeBytes, writeVersion}
 use Rattle.profile.specs.Sound.{soundNumber, soundVersions}
 use Rattle.profile.specs.Writer.{bytesAllowed}
 use Rattle.profile.specs.PieceTexts.{tagged}
@@ -31,7 +31,7 @@ use Rattle.profile.specs.declared.limits.NumberRule.the-variants.{Needed, Omitt
 use Rattle.profile.specs.declared.limits.BytesRule.{BytesRule}
 use Rattle.profile.specs.declared.fields.Version.{Version}
 use Rattle.profile.specs.declared.fields.Version.the-variants.{Absent, Number}
-use Rattle.fast_path.specs.Walk.{taken, numeralIn, isWritten, writtenNumber, leftOut, numberIn, writtenBytes, bytesIn, allowed, versionIn}
+use Rattle.fast_path.specs.Walk.{taken, numeralIn, writtenNumber, unwritten, numberIn, writtenBytes, bytesIn, allowed, versionIn}
 use Rattle.fast_path.proofs.Closed.{Separator, Closed, run-closed}
 use Rattle.fast_path.proofs.ItemTexts.{Named, separatorAfter, items, separator-after, fresh, Behind, closed-items, starts-fresh}
 
@@ -52,11 +52,11 @@ numeral-reads n rest l h =
     rw (digits-run n rest h, digits-unsigned n, value-digits n, le-leb n largest32 l, drop-at (digits n) rest (length (digits n)) refl)
 
 -- a number that is no parameter left out
-number-there : (r : NumberRule) (n : ℕ) (name : List ℕ) (separator : ℕ) (rest : List ℕ) → n ≤ largest32 → inRange r n ≡ true → isWritten r n ≡ true → Closed rest
+number-there : (r : NumberRule) (n : ℕ) (name : List ℕ) (separator : ℕ) (rest : List ℕ) → n ≤ largest32 → inRange r n ≡ true → leftOut r n ≡ false → Closed rest
     → numberIn r name separator (((separator ∷ name) ++ digits n) ++ rest) ≡ some (taken n 44 rest)
 unfolding numberIn
 number-there r n name separator rest l e w h =
-    behind-tag (separator ∷ name) (digits n) rest (λ (u : List ℕ). andThen (numeralIn u) (writtenNumber r)) (leftOut r separator (((separator ∷ name) ++ digits n) ++ rest))
+    behind-tag (separator ∷ name) (digits n) rest (λ (u : List ℕ). andThen (numeralIn u) (writtenNumber r)) (unwritten r separator (((separator ∷ name) ++ digits n) ++ rest))
     ∙ rw (numeral-reads n rest l h, e, w)
 
 number-reads : (r : NumberRule) (n : ℕ) (name : List ℕ) (separator : ℕ) (rest : List ℕ) → soundNumber r ≡ true → inRange r n ≡ true
@@ -76,7 +76,7 @@ number-reads (Omitted low high given) n name separator rest k e h f = go (eqb n 
     go false q =
         let l = leb-true high largest32 (both (leb high largest32) (within low high given) k .0) in
         let w = from-within low high n e in
-        number-there (Omitted low high given) n name separator rest (omega arith) e (rw q) h
+        number-there (Omitted low high given) n name separator rest (omega arith) e q h
 number-reads (Fixed given) n name separator rest k e h f =
     let w = from-within given given n e in
     let q : given ≡ n = omega arith in
@@ -103,15 +103,15 @@ bytes-reads r (b ∷ bs) name separator rest p a h f =
 
 -- ---- the version
 
-pub version-reads : (r : Profile) (v : Version) (rest : List ℕ) → soundVersions (r .versions) ≡ true → versionAllowed r v ≡ true
+pub version-reads : (vs : List ℕ) (v : Version) (rest : List ℕ) → soundVersions vs ≡ true → versionAllowed vs v ≡ true
     → Closed rest → startsWith (text "$v=") rest ≡ false
-    → versionIn r (tagged (text "$") (writeVersion v) ++ rest) ≡ some (taken v 36 rest)
+    → versionIn vs (tagged (text "$") (writeVersion v) ++ rest) ≡ some (taken v 36 rest)
 unfolding versionIn
-version-reads r Absent rest k e h f = rw (f, e)
-version-reads r (Number n) rest k e h f =
-    let w = from-within 0 largestVersion n (all-has (within 0 largestVersion) n (r .versions) k e) in
+version-reads vs Absent rest k e h f = rw f
+version-reads vs (Number n) rest k e h f =
+    let w = from-within 0 largestVersion n (all-has (within 0 largestVersion) n vs k e) in
     let l : n ≤ largest32 = omega arith in
-    behind-tag (text "$v=") (digits n) rest (λ (u : List ℕ). andThen (numeralIn u) (λ (x : ℕ × List ℕ). allowed r (Number (x .0)) (x .1))) (allowed r Absent ((text "$v=" ++ digits n) ++ rest))
+    behind-tag (text "$v=") (digits n) rest (λ (u : List ℕ). andThen (numeralIn u) (λ (x : ℕ × List ℕ). allowed vs (Number (x .0)) (x .1))) (allowed vs Absent ((text "$v=" ++ digits n) ++ rest))
     ∙ rw (numeral-reads n rest l h, e)
 
 -- ---- an item, before the items l and a text that stands behind them

@@ -15,16 +15,15 @@ use Rattle.text.proofs.Starts.{Begins, find-behind}
 use Rattle.b64.specs.B64.{sextet, inAlphabet, encode}
 use Rattle.grammar.specs.Bytes.{isNameByte, isValueByte}
 use Rattle.grammar.proofs.ItemLaws.{name-free}
-use Rattle.profile.specs.Limits.{Profile, limitsOf}
+use Rattle.profile.specs.Limits.{Profile}
 use Rattle.profile.specs.Fields.{FieldSet, writeNumber, writeBytes, writeVersion}
 use Rattle.profile.specs.Reader.{answer, fieldsOf}
 use Rattle.profile.specs.Sound.{sound}
 use Rattle.profile.specs.Writer.{Permitted, formatted}
 use Rattle.profile.specs.PieceTexts.{tagged}
-use Rattle.profile.specs.declared.limits.Limits.{Limits}
 use Rattle.profile.proofs.Texts.{formatted-is}
-use Rattle.profile.proofs.Kept.{here}
-use Rattle.profile.proofs.Table.{Entry, entry-at, known-id}
+use Rattle.profile.proofs.Allows.{here}
+use Rattle.profile.proofs.Table.{Entry, entry-at}
 use Rattle.profile.proofs.Written.{written}
 use Rattle.profile.proofs.Accepted.{accepted}
 use Rattle.fast_path.specs.Walk.{taken, versionIn, numbersIn, pairIn, keysIn, hashesIn, headIn, afterId, walked, WalkAgrees}
@@ -54,21 +53,18 @@ no-dollar (b ∷ salt) output h e = absurd (false≢true e)
 
 -- the string of permitted fields, whose entry passes the test
 module _ (e : List Profile) (f : FieldSet) (E : Entry e (f .numbers .id) (here e f)) (P : Permitted e f) where
-  abbrev limits : Limits
-  limits = limitsOf (here e f)
-
   abbrev keys : List Named
   keys = keyItems (f .keyid) (f .ad)
 
   abbrev five : List Named
-  five = fiveItems limits (f .numbers) (f .keyid) (f .ad)
+  five = fiveItems (here e f) (f .numbers) (f .keyid) (f .ad)
 
   abbrev hashes : List ℕ
   hashes = hashesText (f .salt) (f .output)
 
   -- the separator behind the numbers
   abbrev next : ℕ
-  next = separators 36 (costItems limits (f .numbers))
+  next = separators 36 (costItems (here e f) (f .numbers))
 
   -- ---- how the parts of the string begin
 
@@ -77,7 +73,7 @@ module _ (e : List Profile) (f : FieldSet) (E : Entry e (f .numbers .id) (here e
   begins-hashes Q q = begins-tagged Q 36 [] (writeBytes (f .salt)) _ q (begins-tagged Q 36 [] (writeBytes (f .output)) [] q tt)
 
   -- and so does all that stands behind the id
-  begins-rest : (Q : ℕ → Type 0) → Q 36 → Begins Q (restText limits f)
+  begins-rest : (Q : ℕ → Type 0) → Q 36 → Begins Q (restText (here e f) f)
   begins-rest Q q = begins-tagged Q 36 [] (writeVersion (f .numbers .version)) _ q (begins-items Q 36 five hashes q (begins-hashes Q q))
 
   behind-items : Behind hashes
@@ -90,12 +86,12 @@ module _ (e : List Profile) (f : FieldSet) (E : Entry e (f .numbers .id) (here e
 
   -- ---- each part is read back, and the next is left
 
-  version-read : versionIn (here e f) (restText limits f) ≡ some (taken (f .numbers .version) 36 (items 36 five hashes))
+  version-read : versionIn (here e f .versions) (restText (here e f) f) ≡ some (taken (f .numbers .version) 36 (items 36 five hashes))
   version-read =
-      version-reads (here e f) (f .numbers .version) (items 36 five hashes) (E .versions) (P .version)
+      version-reads (here e f .versions) (f .numbers .version) (items 36 five hashes) (E .versions) (P .column .version)
       (closed-items 36 five hashes dollar behind-items) (starts-fresh 36 36 (text "v=") five hashes behind-items refl)
 
-  numbers-read : numbersIn limits (f .numbers .id) (f .numbers .version) (items 36 five hashes) ≡ some (taken (f .numbers) next (items next keys hashes))
+  numbers-read : numbersIn (here e f) (f .numbers .id) (f .numbers .version) (items 36 five hashes) ≡ some (taken (f .numbers) next (items next keys hashes))
   unfolding numbersIn
   numbers-read =
       let n = f .numbers in
@@ -106,13 +102,13 @@ module _ (e : List Profile) (f : FieldSet) (E : Entry e (f .numbers .id) (here e
       let d₂ = separator-after 36 m dollar in
       let d₃ = separator-after (separatorAfter 36 m) t d₂ in
       rw (
-        number-item (text "m=") 36 ((text "t=", t) ∷ (text "p=", p) ∷ keys) hashes dollar behind-items refl (r .m) (n .m) (E .m) (P .m),
-        number-item (text "t=") (separatorAfter 36 m) ((text "p=", p) ∷ keys) hashes d₂ behind-items refl (r .t) (n .t) (E .t) (P .t),
-        number-item (text "p=") (separatorAfter (separatorAfter 36 m) t) keys hashes d₃ behind-items refl (r .p) (n .p) (E .p) (P .p),
-        le-leb (8 * n .p) (n .m) (P .lanes),
+        number-item (text "m=") 36 ((text "t=", t) ∷ (text "p=", p) ∷ keys) hashes dollar behind-items refl (r .m) (n .m) (E .m) (P .column .m),
+        number-item (text "t=") (separatorAfter 36 m) ((text "p=", p) ∷ keys) hashes d₂ behind-items refl (r .t) (n .t) (E .t) (P .column .t),
+        number-item (text "p=") (separatorAfter (separatorAfter 36 m) t) keys hashes d₃ behind-items refl (r .p) (n .p) (E .p) (P .column .p),
+        le-leb (8 * n .p) (n .m) (P .column .lanes),
       )
 
-  keys-read : keysIn limits next (items next keys hashes) ≡ some (taken (record { first = f .keyid; second = f .ad }) (separators next keys) hashes)
+  keys-read : keysIn (here e f) next (items next keys hashes) ≡ some (taken (record { first = f .keyid; second = f .ad }) (separators next keys) hashes)
   unfolding pairIn
   keys-read =
       let n = f .numbers in
@@ -120,32 +116,32 @@ module _ (e : List Profile) (f : FieldSet) (E : Entry e (f .numbers .id) (here e
       let b = P .bytes in
       let k = writeBytes (f .keyid) in
       let d = writeBytes (f .ad) in
-      let c = separators-separator 36 (costItems limits n) dollar in
+      let c = separators-separator 36 (costItems (here e f) n) dollar in
       rw (
-        bytes-item (text "keyid=") next ((text "data=", d) ∷ []) hashes c behind-items refl (r .keyid) (f .keyid) (P .keyid) (b .0),
-        bytes-item (text "data=") (separatorAfter next k) [] hashes (separator-after next k c) behind-items refl (r .ad) (f .ad) (P .ad) (b .1),
+        bytes-item (text "keyid=") next ((text "data=", d) ∷ []) hashes c behind-items refl (r .keyid) (f .keyid) (P .column .keyid) (b .0),
+        bytes-item (text "data=") (separatorAfter next k) [] hashes (separator-after next k c) behind-items refl (r .ad) (f .ad) (P .column .ad) (b .1),
       )
 
-  hashes-read : hashesIn limits hashes ≡ some (taken (record { first = f .salt; second = f .output }) (separatorAfter 36 (writeBytes (f .output))) [])
+  hashes-read : hashesIn (here e f) hashes ≡ some (taken (record { first = f .salt; second = f .output }) (separatorAfter 36 (writeBytes (f .output))) [])
   unfolding pairIn
   hashes-read =
       let r = here e f in
       let b = P .bytes in
       let o = tagged (text "$") (writeBytes (f .output)) ++ [] in
       rw (
-        bytes-reads (r .salt) (f .salt) [] 36 o (P .salt) (b .2) (begins-tagged Separator 36 [] (writeBytes (f .output)) [] dollar tt) (no-dollar (f .salt) (f .output) (P .order)),
-        bytes-reads (r .output) (f .output) [] 36 [] (P .output) (b .3) tt (λ z. refl),
+        bytes-reads (r .salt) (f .salt) [] 36 o (P .column .salt) (b .2) (begins-tagged Separator 36 [] (writeBytes (f .output)) [] dollar tt) (no-dollar (f .salt) (f .output) (P .column .order)),
+        bytes-reads (r .output) (f .output) [] 36 [] (P .column .output) (b .3) tt (λ z. refl),
       )
 
-  rest-read : afterId e (f .numbers .id) (restText limits f) ≡ some f
+  rest-read : afterId (here e f) (f .numbers .id) (restText (here e f) f) ≡ some f
   unfolding headIn
-  rest-read = rw (known-id e (f .numbers .id) (P .id), version-read, numbers-read, keys-read, hashes-read)
+  rest-read = rw (P .column .id, version-read, numbers-read, keys-read, hashes-read)
 
-  string-read : walked e ((36 ∷ here e f .name) ++ restText limits f) ≡ some f
+  string-read : walked e ((36 ∷ here e f .name) ++ restText (here e f) f) ≡ some f
   unfolding walked isNameByte isValueByte
   string-read =
       let name = here e f .name in
-      let u = restText limits f in
+      let u = restText (here e f) f in
       rw (
         find-behind 36 name u (name-free 36 refl refl name (E .named)) (begins-rest (λ c. c ≡ 36) refl),
         take-at name u (length name) refl,
@@ -158,7 +154,7 @@ module _ (e : List Profile) (ok : sound e ≡ true) where
   walk-written : (f : FieldSet) → Permitted e f → walked e (formatted e f) ≡ some f
   walk-written f P =
       let r = here e f in
-      ap (walked e) (formatted-is e f ∙ pieces-row (limitsOf r) (r .name) f) ∙ string-read e f (entry-at e ok (f .numbers .id) (P .id)) P
+      ap (walked e) (formatted-is e f ∙ pieces-row r f) ∙ string-read e f (entry-at e ok (f .numbers .id) (P .column .id)) P
 
   pub walk-complete : (s : List ℕ) → answer e s ≡ 0 → walked e s ≡ some (fieldsOf e s)
   walk-complete s z =

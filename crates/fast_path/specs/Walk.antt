@@ -11,13 +11,11 @@ use lib.ListN.{length, take, drop}
 use Rattle.text.specs.Text.{text, empty, find, run, startsWith, andThen}
 use Rattle.b64.specs.B64.{inAlphabet, canonical, decode}
 use Rattle.decimal.specs.Decimal.{isDigit, isUnsigned, value}
-use Rattle.profile.specs.Limits.{Profile, limitsOf, inRange, isSize, versionAllowed, idOf, profileOf, largest32}
-use Rattle.profile.specs.Fields.{FieldSet, fieldSet}
+use Rattle.profile.specs.Limits.{Profile, inRange, isSize, versionAllowed, idOf, profileOf, largest32}
+use Rattle.profile.specs.Fields.{FieldSet, fieldSet, misplacedNumber, given, leftOut}
 use Rattle.profile.specs.Reader.{answer, fieldsOf}
 use Rattle.profile.specs.declared.limits.NumberRule.{NumberRule}
-use Rattle.profile.specs.declared.limits.NumberRule.the-variants.{Needed, Omitted, Fixed}
 use Rattle.profile.specs.declared.limits.BytesRule.{BytesRule}
-use Rattle.profile.specs.declared.limits.Limits.{Limits}
 use Rattle.profile.specs.declared.fields.Version.{Version}
 use Rattle.profile.specs.declared.fields.Version.the-variants.{Absent, Number}
 use Rattle.profile.specs.declared.fields.Fields.{Fields}
@@ -37,24 +35,18 @@ taken found separator rest = record { found = found; separator = separator; rest
 unfoldable pub numeralIn : List ℕ → Option (ℕ × List ℕ)
 numeralIn t = let d = run isDigit t in cond (isUnsigned d && leb (value d) largest32) (some (value d, drop (length d) t)) none
 
--- a number of the rule is written: it is a parameter, and not the number that stands for one left out
-abbrev pub isWritten : NumberRule → ℕ → Bool
-isWritten (Needed low high) n = true
-isWritten (Omitted low high given) n = not (eqb n given)
-isWritten (Fixed given) n = false
-
+-- a number that is in range and not to be left out
 abbrev pub writtenNumber : NumberRule → ℕ × List ℕ → Option (Taken ℕ)
-writtenNumber r x = cond (inRange r (x .0) && isWritten r (x .0)) (some (taken (x .0) 44 (x .1))) none
+writtenNumber r x = cond (inRange r (x .0) && not (leftOut r (x .0))) (some (taken (x .0) 44 (x .1))) none
 
-abbrev pub leftOut : NumberRule → ℕ → List ℕ → Option (Taken ℕ)
-leftOut (Needed low high) separator t = none
-leftOut (Omitted low high given) separator t = some (taken given separator t)
-leftOut (Fixed given) separator t = some (taken given separator t)
+-- a number that doesn't stand in the string
+abbrev pub unwritten : NumberRule → ℕ → List ℕ → Option (Taken ℕ)
+unwritten r separator t = cond (misplacedNumber r none) none (some (taken (given r) separator t))
 
 -- a number after its separator and its name, or left out
 unfoldable pub numberIn : NumberRule → List ℕ → ℕ → List ℕ → Option (Taken ℕ)
 numberIn r name separator t =
-    cond (startsWith (separator ∷ name) t) (andThen (numeralIn (drop (suc (length name)) t)) (writtenNumber r)) (leftOut r separator t)
+    cond (startsWith (separator ∷ name) t) (andThen (numeralIn (drop (suc (length name)) t)) (writtenNumber r)) (unwritten r separator t)
 
 -- ---- one byte string
 
@@ -71,20 +63,20 @@ bytesIn r name separator t =
 
 -- ---- the version
 
-abbrev pub allowed : Profile → Version → List ℕ → Option (Taken Version)
-allowed r v t = cond (versionAllowed r v) (some (taken v 36 t)) none
+abbrev pub allowed : List ℕ → Version → List ℕ → Option (Taken Version)
+allowed vs v t = cond (versionAllowed vs v) (some (taken v 36 t)) none
 
-unfoldable pub versionIn : Profile → List ℕ → Option (Taken Version)
-versionIn r t =
-    cond (startsWith (text "$v=") t) (andThen (numeralIn (drop 3 t)) (λ (x : ℕ × List ℕ). allowed r (Number (x .0)) (x .1))) (allowed r Absent t)
+unfoldable pub versionIn : List ℕ → List ℕ → Option (Taken Version)
+versionIn vs t =
+    cond (startsWith (text "$v=") t) (andThen (numeralIn (drop 3 t)) (λ (x : ℕ × List ℕ). allowed vs (Number (x .0)) (x .1))) (allowed vs Absent t)
 
 -- ---- m, t and p, and m at least 8p
 
-unfoldable pub numbersIn : Limits → ℕ → Version → List ℕ → Option (Taken Fields)
-numbersIn l k v s =
-    andThen (numberIn (l .m) (text "m=") 36 s) (λ (m : Taken ℕ).
-    andThen (numberIn (l .t) (text "t=") (m .separator) (m .rest)) (λ (t : Taken ℕ).
-    andThen (numberIn (l .p) (text "p=") (t .separator) (t .rest)) (λ (p : Taken ℕ).
+unfoldable pub numbersIn : Profile → ℕ → Version → List ℕ → Option (Taken Fields)
+numbersIn r k v s =
+    andThen (numberIn (r .m) (text "m=") 36 s) (λ (m : Taken ℕ).
+    andThen (numberIn (r .t) (text "t=") (m .separator) (m .rest)) (λ (t : Taken ℕ).
+    andThen (numberIn (r .p) (text "p=") (t .separator) (t .rest)) (λ (p : Taken ℕ).
     cond (leb (8 * p .found) (m .found))
     (some (taken (record { id = k; version = v; m = m .found; t = t .found; p = p .found }) (p .separator) (p .rest))) none)))
 
@@ -101,34 +93,34 @@ pairIn a a-name b b-name pieces separator s =
     andThen (bytesIn b b-name (cond pieces 36 (x .separator)) (x .rest)) (λ (y : Taken (List ℕ)).
     some (taken (record { first = x .found; second = y .found }) (y .separator) (y .rest))))
 
-abbrev pub keysIn : Limits → ℕ → List ℕ → Option (Taken Pair)
-keysIn l separator s = pairIn (l .keyid) (text "keyid=") (l .ad) (text "data=") false separator s
+abbrev pub keysIn : Profile → ℕ → List ℕ → Option (Taken Pair)
+keysIn r separator s = pairIn (r .keyid) (text "keyid=") (r .ad) (text "data=") false separator s
 
-abbrev pub hashesIn : Limits → List ℕ → Option (Taken Pair)
-hashesIn l s = pairIn (l .salt) [] (l .output) [] true 36 s
+abbrev pub hashesIn : Profile → List ℕ → Option (Taken Pair)
+hashesIn r s = pairIn (r .salt) [] (r .output) [] true 36 s
 
 -- nothing is left after them
-abbrev pub withStrings : Limits → Taken Fields → Option FieldSet
-withStrings l n =
-    andThen (keysIn l (n .separator) (n .rest)) (λ (k : Taken Pair).
-    andThen (hashesIn l (k .rest)) (λ (h : Taken Pair).
+abbrev pub withStrings : Profile → Taken Fields → Option FieldSet
+withStrings r n =
+    andThen (keysIn r (n .separator) (n .rest)) (λ (k : Taken Pair).
+    andThen (hashesIn r (k .rest)) (λ (h : Taken Pair).
     cond (empty (h .rest)) (some (fieldSet (n .found) (k .found .first) (k .found .second) (h .found .first) (h .found .second))) none))
 
 -- ---- the whole
 
 -- version and numbers after the id with the number k
-unfoldable pub headIn : List Profile → ℕ → List ℕ → Option (Taken Fields)
-headIn e k s =
-    andThen (versionIn (profileOf e k) s) (λ (v : Taken Version). numbersIn (limitsOf (profileOf e k)) k (v .found) (v .rest))
+unfoldable pub headIn : Profile → ℕ → List ℕ → Option (Taken Fields)
+headIn r k s = andThen (versionIn (r .versions) s) (λ (v : Taken Version). numbersIn r k (v .found) (v .rest))
 
-abbrev pub afterId : List Profile → ℕ → List ℕ → Option FieldSet
-afterId e k s = cond (eqb k 0) none (andThen (headIn e k s) (withStrings (limitsOf (profileOf e k))))
+abbrev pub afterId : Profile → ℕ → List ℕ → Option FieldSet
+afterId r k s = cond (r .known) (andThen (headIn r k s) (withStrings r)) none
 
 -- the fields that a string says, where it is written as the writer writes them
 unfoldable pub walked : List Profile → List ℕ → Option FieldSet
 walked e s =
     let t = drop 1 s in
-    cond (startsWith (text "$") s) (afterId e (idOf e (take (find 36 t) t)) (drop (find 36 t) t)) none
+    let k = idOf e (take (find 36 t) t) in
+    cond (startsWith (text "$") s) (afterId (profileOf e k) k (drop (find 36 t) t)) none
 
 -- the walk finds the fields of each accepted string, and nothing in any other
 abbrev pub WalkAgrees : List Profile → Type 0

@@ -12,10 +12,10 @@ use Rattle.text.specs.Place.{over, put}
 use Rattle.text.specs.Text.{run}
 use Rattle.b64.specs.B64.{inAlphabet, canonical, decode}
 use Rattle.decimal.specs.Decimal.{isDigit, value}
+use Rattle.profile.specs.Limits.{Profile}
 use Rattle.profile.specs.Fields.{FieldSet}
 use Rattle.profile.specs.declared.limits.BytesRule.{BytesRule}
 use Rattle.profile.specs.declared.limits.BytesRule.the-variants.{Sized, Barred}
-use Rattle.profile.specs.declared.limits.Limits.{Limits}
 use Rattle.profile.specs.declared.fields.Version.{Version}
 use Rattle.profile.specs.declared.fields.Fields.{Fields}
 use Rattle.fast_path.specs.Contents.{joinedBytes, refusedContents}
@@ -163,8 +163,8 @@ contentsFor f keyid ad salt output =
     }
 
 -- room for all four byte strings, and two bytes more for the decoder's test
-abbrev pub roomy : Limits → ℕ
-roomy l = most (l .keyid) + most (l .ad) + most (l .salt) + most (l .output) + 2
+abbrev pub roomy : Profile → ℕ
+roomy r = most (r .keyid) + most (r .ad) + most (r .salt) + most (r .output) + 2
 
 -- the buffer that the walk decodes into
 abbrev pub bufferLength : ℕ

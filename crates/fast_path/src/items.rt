@@ -8,6 +8,9 @@ use profile::bounds::in_range;
 use profile::bounds::is_size;
 use profile::limits::BytesRule;
 use profile::limits::NumberRule;
+use profile::omitted::given_of;
+use profile::omitted::is_needed;
+use profile::omitted::left_out;
 use text::units::Bytes;
 ghost use Prim.Native.Nat.{ℕ, _+_, _≤_};
 ghost use mathlib.Core.Path.{_≡_};
@@ -15,7 +18,7 @@ ghost use mathlib.Core.List.{List};
 ghost use lib.ListN.{length, drop};
 ghost use Rattle.text.specs.Text.{andThen};
 ghost use Rattle.b64.specs.B64.{Sextets};
-ghost use Rattle.fast_path.specs.Walk.{numeralIn, isWritten, writtenNumber, leftOut, numberIn, writtenBytes, bytesIn};
+ghost use Rattle.fast_path.specs.Walk.{numeralIn, writtenNumber, unwritten as unwrittenNumber, numberIn, writtenBytes, bytesIn};
 ghost use Rattle.fast_path.specs.WalkSteps.{NumberIs, most, BytesAre};
 
 // The number, the place after its item, and the separator before the next.
@@ -30,20 +33,6 @@ pub enum BytesItem {
     To(usize, usize, u8),
 }
 
-fn is_written(rule: NumberRule, n: u32) -> bool
-    ensures { λ r. ⌜ r ≡ isWritten rule n ⌝ }
-{
-    match rule {
-        NumberRule::Needed { low: _, high: _ } => true,
-        NumberRule::Omitted {
-            low: _,
-            high: _,
-            given,
-        } => n != given,
-        NumberRule::Fixed { given: _ } => false,
-    }
-}
-
 // A number whose separator and name were read.
 fn written_number(rule: NumberRule, s: &[u8], at: usize) -> NumberItem
     ensures { λ r. ⌜ NumberIs (andThen (numeralIn (drop at (now (s .entry)))) (writtenNumber rule)) (now (s .entry)) r ⌝ }
@@ -52,10 +41,10 @@ fn written_number(rule: NumberRule, s: &[u8], at: usize) -> NumberItem
         Numeral::No => NumberItem::No,
         Numeral::Is(n, next) => {
             if in_range(rule, n) {
-                if is_written(rule, n) {
-                    return NumberItem::Is(n, next, b',');
+                if left_out(rule, n) {
+                    return NumberItem::No;
                 }
-                return NumberItem::No;
+                return NumberItem::Is(n, next, b',');
             }
             NumberItem::No
         }
@@ -63,18 +52,13 @@ fn written_number(rule: NumberRule, s: &[u8], at: usize) -> NumberItem
 }
 
 // A number that doesn't stand in the string.
-fn left_out(rule: NumberRule, at: usize, separator: u8) -> NumberItem
-    ensures { λ r. ⌜ ((s : List ℕ) → at ≤ length s → NumberIs (leftOut rule separator (drop at s)) s r) ⌝ }
+fn unwritten(rule: NumberRule, at: usize, separator: u8) -> NumberItem
+    ensures { λ r. ⌜ ((s : List ℕ) → at ≤ length s → NumberIs (unwrittenNumber rule separator (drop at s)) s r) ⌝ }
 {
-    match rule {
-        NumberRule::Needed { low: _, high: _ } => NumberItem::No,
-        NumberRule::Omitted {
-            low: _,
-            high: _,
-            given,
-        } => NumberItem::Is(given, at, separator),
-        NumberRule::Fixed { given } => NumberItem::Is(given, at, separator),
+    if is_needed(rule) {
+        return NumberItem::No;
     }
+    NumberItem::Is(given_of(rule), at, separator)
 }
 
 pub fn number_item(rule: NumberRule, name: &[u8], s: &[u8], at: usize, separator: u8) -> NumberItem
@@ -84,7 +68,7 @@ pub fn number_item(rule: NumberRule, name: &[u8], s: &[u8], at: usize, separator
     if begins(s, at, separator, name) {
         return written_number(rule, s, at + 1 + name.len());
     }
-    left_out(rule, at, separator)
+    unwritten(rule, at, separator)
 }
 
 // A byte string whose separator and name were read: at least one byte, and as many as permitted.

@@ -7,13 +7,15 @@ use crate::numeral::Numeral;
 use crate::numeral::number;
 use crate::strings::Two;
 use crate::strings::two_items;
+use profile::bounds::version_allowed;
+use profile::columns::column_of;
 use profile::fields::Fields;
 use profile::fields::Reading;
 use profile::fields::Version;
 use profile::ids::id_number;
-use profile::limits::Limits;
-use profile::limits::limits_of;
-use profile::limits::version_allowed;
+use profile::limits::Column;
+use profile::limits::ROOM;
+use profile::limits::Versions;
 use text::scan::next_at;
 use text::units::Bytes;
 ghost use Prim.Native.Nat.{ℕ, _-_, _≤_};
@@ -21,7 +23,8 @@ ghost use mathlib.Core.Path.{_≡_};
 ghost use mathlib.Core.List.{List};
 ghost use lib.ListN.{length, drop};
 ghost use Rattle.b64.specs.B64.{Sextets};
-ghost use Rattle.profile.specs.Limits.{profileOf, limitsOf, editionTwo};
+ghost use Rattle.profile.specs.Limits.{editionTwo};
+ghost use Rattle.profile.specs.Columns.{listed, profileIn};
 ghost use Rattle.fast_path.specs.Walk.{taken, allowed as allowedVersion, versionIn, numbersIn, headIn, withStrings, afterId, walked};
 ghost use Rattle.fast_path.specs.WalkSteps.{VersionIs, HeadIs, kindFor, contentsFor, roomy, bufferLength, FoundIn};
 
@@ -47,36 +50,36 @@ pub enum Walk {
 }
 
 // A version, where the profile permits it.
-fn allowed(id: u8, version: Version, next: usize) -> VersionItem
-    ensures { λ r. ⌜ ((s : List ℕ) → next ≤ length s → VersionIs (allowedVersion (profileOf editionTwo id) version (drop next s)) s r) ⌝ }
+fn allowed(versions: Versions, version: Version, next: usize) -> VersionItem
+    ensures { λ r. ⌜ ((s : List ℕ) → next ≤ length s → VersionIs (allowedVersion (listed versions) version (drop next s)) s r) ⌝ }
 {
-    if version_allowed(id, version) {
+    if version_allowed(versions, version) {
         return VersionItem::Is(version, next);
     }
     VersionItem::No
 }
 
-fn version_item(id: u8, s: &[u8], at: usize) -> VersionItem
+fn version_item(versions: Versions, s: &[u8], at: usize) -> VersionItem
     requires { ⌜ at ≤ length (now s) ⌝ }
-    ensures { λ r. ⌜ VersionIs (versionIn (profileOf editionTwo id) (drop at (now (s .entry)))) (now (s .entry)) r ⌝ }
+    ensures { λ r. ⌜ VersionIs (versionIn (listed versions) (drop at (now (s .entry)))) (now (s .entry)) r ⌝ }
 {
     if begins(s, at, b'$', b"v=") {
         return match number(s, at + 3) {
             Numeral::No => VersionItem::No,
-            Numeral::Is(n, next) => allowed(id, Version::Number(n), next),
+            Numeral::Is(n, next) => allowed(versions, Version::Number(n), next),
         };
     }
-    allowed(id, Version::Absent, at)
+    allowed(versions, Version::Absent, at)
 }
 
 // m, t and p, and m at least 8p without a product that can wrap.
-fn numbers(limits: Limits, id: u8, version: Version, s: &[u8], at: usize) -> Head
+fn numbers(column: Column, id: u8, version: Version, s: &[u8], at: usize) -> Head
     requires { ⌜ at ≤ length (now s) ⌝ }
-    ensures { λ r. ⌜ HeadIs (numbersIn limits id version (drop at (now (s .entry)))) (now (s .entry)) r ⌝ }
+    ensures { λ r. ⌜ HeadIs (numbersIn (profileIn column) id version (drop at (now (s .entry)))) (now (s .entry)) r ⌝ }
 {
-    let m_rule = limits.m;
-    let t_rule = limits.t;
-    let p_rule = limits.p;
+    let m_rule = column.m;
+    let t_rule = column.t;
+    let p_rule = column.p;
     match number_item(m_rule, b"m=", s, at, b'$') {
         NumberItem::No => Head::No,
         NumberItem::Is(m, at_t, separator_t) => match number_item(
@@ -116,13 +119,14 @@ fn numbers(limits: Limits, id: u8, version: Version, s: &[u8], at: usize) -> Hea
     }
 }
 
-fn head_at(limits: Limits, id: u8, s: &[u8], at: usize) -> Head
-    requires { ⌜ (at ≤ length (now s)) × (limits ≡ limitsOf (profileOf editionTwo id)) ⌝ }
-    ensures { λ r. ⌜ HeadIs (headIn editionTwo id (drop at (now (s .entry)))) (now (s .entry)) r ⌝ }
+fn head_at(column: Column, id: u8, s: &[u8], at: usize) -> Head
+    requires { ⌜ at ≤ length (now s) ⌝ }
+    ensures { λ r. ⌜ HeadIs (headIn (profileIn column) id (drop at (now (s .entry)))) (now (s .entry)) r ⌝ }
 {
-    match version_item(id, s, at) {
+    let versions = column.versions;
+    match version_item(versions, s, at) {
         VersionItem::No => Head::No,
-        VersionItem::Is(version, next) => numbers(limits, id, version, s, next),
+        VersionItem::Is(version, next) => numbers(column, id, version, s, next),
     }
 }
 
@@ -166,21 +170,21 @@ fn contents_for(
 // The byte strings after the number fields, up to the end.
 fn with_strings(
     table: &[u8; 256],
-    limits: Limits,
+    column: Column,
     fields: Fields,
     s: &[u8],
     at: usize,
     separator: u8,
     out: &mut [u8],
 ) -> Walk
-    requires { ⌜ (at ≤ length (now s)) × (roomy limits ≤ length (now out)) ⌝ }
+    requires { ⌜ (at ≤ length (now s)) × (roomy (profileIn column) ≤ length (now out)) ⌝ }
     requires { ⌜ Sextets (now table) ⌝ }
-    ensures { λ r. ⌜ FoundIn (withStrings limits (taken fields separator (drop at (now (s .entry))))) (now (out .entry)) (now (out .exit)) r ⌝ }
+    ensures { λ r. ⌜ FoundIn (withStrings (profileIn column) (taken fields separator (drop at (now (s .entry))))) (now (out .entry)) (now (out .exit)) r ⌝ }
 {
-    let keyid = limits.keyid;
-    let ad = limits.ad;
-    let salt = limits.salt;
-    let output = limits.output;
+    let keyid = column.keyid;
+    let ad = column.ad;
+    let salt = column.salt;
+    let output = column.output;
     match two_items(
         table,
         keyid,
@@ -210,20 +214,19 @@ fn with_strings(
 }
 
 // What stands after the id.
-fn after_id(table: &[u8; 256], id: u8, s: &[u8], at: usize, out: &mut [u8]) -> Walk
-    requires { ⌜ (at ≤ length (now s)) × (bufferLength ≤ length (now out)) ⌝ }
+fn after_id(table: &[u8; 256], column: Column, id: u8, s: &[u8], at: usize, out: &mut [u8]) -> Walk
+    requires { ⌜ (at ≤ length (now s)) × (roomy (profileIn column) ≤ length (now out)) ⌝ }
     requires { ⌜ Sextets (now table) ⌝ }
-    ensures { λ r. ⌜ FoundIn (afterId editionTwo id (drop at (now (s .entry)))) (now (out .entry)) (now (out .exit)) r ⌝ }
+    ensures { λ r. ⌜ FoundIn (afterId (profileIn column) id (drop at (now (s .entry)))) (now (out .entry)) (now (out .exit)) r ⌝ }
 {
-    if id == 0 {
+    if !column.known {
         return Walk::Nothing;
     }
-    let limits = limits_of(id);
-    match head_at(limits, id, s, at) {
+    match head_at(column, id, s, at) {
         Head::No => Walk::Nothing,
         Head::Is(fields, next, separator) => with_strings(
             table,
-            limits,
+            column,
             fields,
             s,
             next,
@@ -233,7 +236,8 @@ fn after_id(table: &[u8; 256], id: u8, s: &[u8], at: usize, out: &mut [u8]) -> W
     }
 }
 
-// The fields of a good string, with their byte strings, one after the other, from the start of `out`.
+// The fields of a good string, with their byte strings, one after the other, from the start of `out`. Of a
+// string that is longer than any permitted one nothing is read.
 pub fn walk_string(table: &[u8; 256], s: &[u8], out: &mut [u8]) -> Walk
     requires { ⌜ bufferLength ≤ length (now out) ⌝ }
     requires { ⌜ Sextets (now table) ⌝ }
@@ -242,9 +246,13 @@ pub fn walk_string(table: &[u8; 256], s: &[u8], out: &mut [u8]) -> Walk
     if s.len() == 0 {
         return Walk::Nothing;
     }
+    if ROOM < s.len() {
+        return Walk::Nothing;
+    }
     if s[0] != b'$' {
         return Walk::Nothing;
     }
     let end = next_at(s, 1, b'$');
-    after_id(table, id_number(&s[1..end]), s, end, out)
+    let id = id_number(&s[1..end]);
+    after_id(table, column_of(id), id, s, end, out)
 }

@@ -1,15 +1,18 @@
 -- The claims of specs/Claims.antt, proved.
 -- Assumes nothing.
-use Prim.Native.Nat.{ℕ, zero, suc, _≤_}
-use mathlib.Core.Bool.{Bool, true, false, cond}
-use mathlib.Core.List.{List}
+use Prim.Native.Nat.{ℕ, _≤_}
+use mathlib.Core.Bool.{Bool, true, false, not, cond}
+use mathlib.Core.List.{List, _∷_}
 use mathlib.Core.Path.{_≡_, refl, sym, ap, _∙_}
 use native.Mathlib.Omega.{arith}
 use lib.ListN.{length}
 use borrow.Author.Tests.{ne-eqb}
+use Rattle.text.specs.Text.{all, has}
 use Rattle.text.specs.Place.{putAfter}
+use Rattle.text.proofs.Tests.{is-false}
+use Rattle.text.proofs.Table.{always}
 use Rattle.text.proofs.Writing.{after-number}
-use Rattle.profile.specs.Limits.{profileOf, editionTwo, versionAllowed}
+use Rattle.profile.specs.Limits.{Profile, nobody, profileOf, editionTwo, versionAllowed}
 use Rattle.profile.specs.Reader.{answer, fieldsOf}
 use Rattle.profile.specs.Writer.{refusal}
 use Rattle.profile.specs.Entries.{reading}
@@ -24,15 +27,16 @@ use Rattle.phc.specs.Claims.{PhcClaims}
 use Rattle.phc.proofs.WholeLaws.{fits-number}
 
 -- no profile permits the version 0
-no-version-0 : (k : ℕ) → versionAllowed (profileOf editionTwo k) (Number 0) ≡ false
-unfolding editionTwo
-no-version-0 zero = refl
-no-version-0 (suc zero) = refl
-no-version-0 (suc (suc zero)) = refl
-no-version-0 (suc (suc (suc zero))) = refl
-no-version-0 (suc (suc (suc (suc zero)))) = refl
-no-version-0 (suc (suc (suc (suc (suc zero))))) = refl
-no-version-0 (suc (suc (suc (suc (suc (suc k)))))) = refl
+unnumbered : Profile → Bool
+unnumbered r = not (has 0 (r .versions))
+
+all-unnumbered : all unnumbered (nobody ∷ editionTwo) ≡ true
+unfolding unnumbered editionTwo
+all-unnumbered = refl
+
+no-version-0 : (k : ℕ) → versionAllowed (profileOf editionTwo k .versions) (Number 0) ≡ false
+unfolding unnumbered
+no-version-0 k = is-false (has 0 (profileOf editionTwo k .versions)) (always unnumbered nobody (nobody ∷ editionTwo) refl all-unnumbered k)
 
 flag-refused : (id flag version m t p : ℕ) (keyid ad salt output : List ℕ) → 2 ≤ flag
     → refusal editionTwo (handed id flag version m t p keyid ad salt output) ≡ cond (profileOf editionTwo id .known) 9 8

@@ -11,12 +11,12 @@ use Rattle.b64.proofs.B64Laws.{length-encode}
 use Rattle.profile.specs.Limits.{editionTwo, room}
 use Rattle.profile.specs.Fields.{FieldSet, chosen, writeBytes}
 use Rattle.profile.specs.Reader.{answer, fieldsOf}
-use Rattle.profile.specs.Writer.{refusal, formatted}
+use Rattle.profile.specs.Writer.{Allows, refusal, formatted}
 use Rattle.profile.specs.PieceTexts.{taggedLength}
 use Rattle.profile.specs.Entries.{decoded, writing}
 use Rattle.profile.specs.declared.fields.ByteString.{ByteString}
 use Rattle.profile.specs.declared.fields.ByteString.the-variants.{Keyid, Data, Salt, Output}
-use Rattle.profile.proofs.Kept.{Kept, here, kept, kept-of}
+use Rattle.profile.proofs.Allows.{here, allowed}
 use Rattle.profile.proofs.Table.{edition-two-sound}
 use Rattle.profile.proofs.Texts.{formatted-length}
 use Rattle.profile.proofs.Lengths.{most-room}
@@ -28,7 +28,7 @@ pub written-small : (f : FieldSet) (buffer : List ℕ) (number count : ℕ) (lef
 unfolding writing
 written-small f buffer number count left e z =
     let q = after-counted (refusal editionTwo f) buffer (formatted editionTwo f) number count left e z in
-    omega (arith, q .1, most-room f (kept editionTwo f (q .0)))
+    omega (arith, q .1, most-room f (allowed editionTwo f (q .0)))
 
 -- ---- decoded
 
@@ -36,7 +36,7 @@ longer : (tag : ℕ) (bs : List ℕ) → length bs ≤ taggedLength tag (writeBy
 longer tag [] = omega arith
 longer tag (b ∷ bs) = omega (arith, length-encode (b ∷ bs))
 
-chosen-small : (f : FieldSet) → Kept (here editionTwo f) f → (c : ByteString) → length (chosen c f) ≤ room
+chosen-small : (f : FieldSet) → Allows (here editionTwo f) f → (c : ByteString) → length (chosen c f) ≤ room
 chosen-small f h Keyid = omega (arith, longer 7 (f .keyid), formatted-length editionTwo f, most-room f h)
 chosen-small f h Data = omega (arith, longer 6 (f .ad), formatted-length editionTwo f, most-room f h)
 chosen-small f h Salt = omega (arith, longer 1 (f .salt), formatted-length editionTwo f, most-room f h)
@@ -47,4 +47,4 @@ unfolding decoded
 decoded-small c s buffer number count left e z =
     let f = fieldsOf editionTwo s in
     let q = after-counted (answer editionTwo s) buffer (chosen c f) number count left e z in
-    omega (arith, q .1, chosen-small f (kept-of editionTwo f (accepted editionTwo edition-two-sound s (q .0) .0)) c)
+    omega (arith, q .1, chosen-small f (accepted editionTwo edition-two-sound s (q .0) .0 .column) c)

@@ -16,7 +16,7 @@ use Rattle.text.proofs.Rows.{Clear, clear}
 use Rattle.text.proofs.Lists.{empty-nil, head-passes}
 use Rattle.b64.specs.B64.{canonical, decode}
 use Rattle.grammar.specs.Bytes.{isText}
-use Rattle.grammar.specs.Limits.{longestValue, mostItems}
+use Rattle.grammar.specs.Limits.{longestOutput, mostItems}
 use Rattle.grammar.specs.Pieces.{Slot, Pieces, isVersionPiece, belongs, afterFirst, pieces, string}
 use Rattle.grammar.specs.Items.{Item, items, itemsOf, paramsText}
 use Rattle.grammar.specs.Rules.{isValue, isItem, isParams, isOutput, pieceRows, grammarRows}
@@ -25,13 +25,13 @@ use Rattle.grammar.proofs.ValueBytes.{canonical-values}
 use Rattle.grammar.proofs.ItemLaws.{item-value, params-items}
 use Rattle.grammar.proofs.PieceLaws.{string-pieces}
 use Rattle.grammar.proofs.Reading.{whole-starts}
-use Rattle.profile.specs.Limits.{Profile, idOf, profileOf, versionAllowed, limitsOf}
+use Rattle.profile.specs.Limits.{Profile, idOf, profileOf, versionAllowed}
 use Rattle.profile.specs.Fields.{isSized, isBytes, readBytes, writeBytes, readVersion}
 use Rattle.profile.specs.Reader.{names, named, itemValue, slots, strangers, slotAt, misplaced, profileRows, answer, carried, fieldsOf}
 use Rattle.profile.specs.Writer.{Permitted, itemList, fieldSlots, fieldPieces, formatted}
 use Rattle.profile.specs.Sound.{sound}
 use Rattle.profile.specs.declared.limits.BytesRule.{BytesRule}
-use Rattle.profile.proofs.Codecs.{number-back, bytes-back, version-back}
+use Rattle.profile.proofs.Codecs.{number-back, bytes-back, value-filled, output-filled, version-back}
 use Rattle.profile.proofs.Slots.{list-slots}
 use Rattle.profile.proofs.Table.{entry-at, name-of}
 use Rattle.profile.proofs.Written.{Goods, After}
@@ -77,12 +77,12 @@ params-all (some s) e =
     (q .1, params-items s (q .1))
 
 -- an output is canonical by the grammar, and of a permitted size by the profile
-output-bytes : (r : BytesRule) (s : Slot) → broken isOutput s ≡ false → broken (isSized r) s ≡ false → (broken isValue s ≡ false) × (broken (isBytes r) s ≡ false)
-unfolding isOutput isText
-output-bytes r none o e = (refl, refl)
+output-bytes : (r : BytesRule) (s : Slot) → broken isOutput s ≡ false → broken (isSized r) s ≡ false → broken (isBytes r) s ≡ false
+unfolding isOutput
+output-bytes r none o e = refl
 output-bytes r (some t) o e =
-    let q = both (within 1 longestValue (length t)) (canonical t) (is-true (isOutput t) o) in
-    (not-of-true (and-true (q .0) (canonical-values t (q .1))), not-of-true (and-true (q .1) (is-true (isSized r t) e)))
+    let q = both (within 1 longestOutput (length t)) (canonical t) (is-true (isOutput t) o) in
+    not-of-true (and-true (q .1) (is-true (isSized r t) e))
 
 -- no output without a salt: a salt that is there has a byte
 ordered : (salt output : Slot) → After salt output → writeBytes (readBytes salt) ≡ salt → (empty (readBytes salt) && not (empty (readBytes output))) ≡ false
@@ -105,11 +105,11 @@ module _ (e : List Profile) (ok : sound e ≡ true) where
       let vs = slots names is in
       let k = idOf e (p .id) in
       let r = profileOf e k in
-      let N = name-of e (p .id) r8 in
-      let E = entry-at e ok k (N .1) in
+      let known = is-true (r .known) r8 in
+      let E = entry-at e ok k known in
       let P = params-all (p .params) g4 in
       let G = slots-good names is (P .0) in
-      let s10 = neither (not (empty (strangers names is))) (misplaced (limitsOf r) vs) r10 in
+      let s10 = neither (not (empty (strangers names is))) (misplaced r vs) r10 in
       let place₄ = neither _ _ (s10 .1) in
       let place₃ = neither _ _ (place₄ .0) in
       let place₂ = neither _ _ (place₃ .0) in
@@ -117,11 +117,10 @@ module _ (e : List Profile) (ok : sound e ≡ true) where
       let m = number-back (r .m) (slotAt vs 0) (E .m) (place₁ .0) m₁ m₂ in
       let t = number-back (r .t) (slotAt vs 1) (E .t) (place₁ .1) t₁ t₂ in
       let l = number-back (r .p) (slotAt vs 2) (E .p) (place₂ .1) p₁ p₂ in
-      let keyid = bytes-back (r .keyid) (slotAt vs 3) (G .1 .1 .1 .0) keyid₁ in
-      let ad = bytes-back (r .ad) (slotAt vs 4) (G .1 .1 .1 .1 .0) ad₁ in
-      let salt = bytes-back (r .salt) (p .salt) g5 r14 in
-      let o = output-bytes (r .output) (p .output) g6 r15 in
-      let output = bytes-back (r .output) (p .output) (o .0) (o .1) in
+      let keyid = bytes-back (r .keyid) (slotAt vs 3) (value-filled (slotAt vs 3) (G .1 .1 .1 .0)) keyid₁ in
+      let ad = bytes-back (r .ad) (slotAt vs 4) (value-filled (slotAt vs 4) (G .1 .1 .1 .1 .0)) ad₁ in
+      let salt = bytes-back (r .salt) (p .salt) (value-filled (p .salt) g5) r14 in
+      let output = bytes-back (r .output) (p .output) (output-filled (p .output) g6) (output-bytes (r .output) (p .output) g6 r15) in
       let left = empty-nil (strangers names is) (is-true (empty (strangers names is)) (s10 .0)) in
       let same-slots : fieldSlots r (carried e p) ≡ vs = λ i. m .1 i ∷ t .1 i ∷ l .1 i ∷ keyid .1 i ∷ ad .1 i ∷ [] in
       let same-params : paramsText (itemList names (fieldSlots r (carried e p))) ≡ p .params =
@@ -129,20 +128,22 @@ module _ (e : List Profile) (ok : sound e ≡ true) where
       let same-version = version-back (p .version) v g3 in
       let same-more = sym (empty-nil (p .more) (is-true (empty (p .more)) g7)) in (
         record {
-          id = N .1;
-          version = is-true (versionAllowed r (readVersion (p .version))) r9;
-          m = m .0;
-          t = t .0;
-          p = l .0;
-          lanes = ltb-false _ _ lanes;
-          keyid = keyid .0;
-          ad = ad .0;
-          salt = salt .0;
-          output = output .0;
-          order = ordered (p .salt) (p .output) a (salt .1);
+          column = record {
+            id = known;
+            version = is-true (versionAllowed (r .versions) (readVersion (p .version))) r9;
+            m = m .0;
+            t = t .0;
+            p = l .0;
+            lanes = ltb-false _ _ lanes;
+            keyid = keyid .0;
+            ad = ad .0;
+            salt = salt .0;
+            output = output .0;
+            order = ordered (p .salt) (p .output) a (salt .1);
+          };
           bytes = (keyid .2, ad .2, salt .2, output .2);
         },
-        λ i. record { id = N .0 i; version = same-version i; params = same-params i; salt = salt .1 i; output = output .1 i; more = same-more i },
+        λ i. record { id = name-of e (p .id) known i; version = same-version i; params = same-params i; salt = salt .1 i; output = output .1 i; more = same-more i },
       )
 
   pub accepted : (s : List ℕ) → answer e s ≡ 0 → Permitted e (fieldsOf e s) × (formatted e (fieldsOf e s) ≡ s)

@@ -28,7 +28,6 @@ use Rattle.profile.proofs.Table.{at-id, edition-two-sound}
 use Rattle.profile.proofs.Written.{pieces-of, written}
 use Rattle.profile.proofs.Accepted.{accepted}
 use Rattle.profile.proofs.Demand3.{not-refused, permitted, same-string, same-fields, refused-exactly}
-use Rattle.profile.proofs.Kept.{kept-of}
 use Rattle.profile.proofs.Lengths.{bounds-two, most-room}
 
 -- ---- demand 3, over the rules
@@ -153,10 +152,10 @@ entries-demand-3 e ok short =
 pub lengths : Lengths
 lengths =
     record {
-      any-most = λ f h. most-room f (kept-of editionTwo f h);
-      argon2-least = λ f h k o. rw (le-leb (f .numbers .id) 3 k) at (bounds-two f (kept-of editionTwo f h) .1 o);
-      pbkdf2-most = λ f h k. rw (lt-leb (f .numbers .id) 3 k) at (bounds-two f (kept-of editionTwo f h) .0);
-      pbkdf2-least = λ f h k o. rw (lt-leb (f .numbers .id) 3 k) at (bounds-two f (kept-of editionTwo f h) .1 o);
+      any-most = λ f h. most-room f (h .column);
+      argon2-least = λ f h k o. rw (le-leb (f .numbers .id) 3 k) at (bounds-two f (h .column) .1 o);
+      pbkdf2-most = λ f h k. rw (lt-leb (f .numbers .id) 3 k) at (bounds-two f (h .column) .0);
+      pbkdf2-least = λ f h k o. rw (lt-leb (f .numbers .id) 3 k) at (bounds-two f (h .column) .1 o);
     }
 
 pub entries-demand-3-two : EntriesDemand3 editionTwo
@@ -177,8 +176,8 @@ one-lane : (f : FieldSet) → Permitted editionTwo f → f .numbers .id ≤ 3 �
 unfolding laned
 one-lane f h k =
     let r = profileOf editionTwo (f .numbers .id) in
-    let t = implied (leb (f .numbers .id) 3) (leb 1 (lowest (r .p))) (at-id laned editionTwo all-laned (f .numbers .id) (h .id)) (le-leb (f .numbers .id) 3 k) in
-    omega (arith, leb-true 1 (lowest (r .p)) t, from-within (lowest (r .p)) (highest (r .p)) (f .numbers .p) (h .p) .0)
+    let t = implied (leb (f .numbers .id) 3) (leb 1 (lowest (r .p))) (at-id laned editionTwo all-laned (f .numbers .id) (h .column .id)) (le-leb (f .numbers .id) 3 k) in
+    omega (arith, leb-true 1 (lowest (r .p)) t, from-within (lowest (r .p)) (highest (r .p)) (f .numbers .p) (h .column .p) .0)
 
 pub lanes : Lanes
 lanes =
@@ -187,5 +186,5 @@ lanes =
           let a : answer editionTwo s ≡ 0 = sym (reading-number editionTwo s) ∙ z in
           let h = accepted editionTwo edition-two-sound s a .0 in
           let q = reading-fields editionTwo s a in
-          rw q (one-lane (fieldsOf editionTwo s) h (rw q at k), h .lanes);
+          rw q (one-lane (fieldsOf editionTwo s) h (rw q at k), h .column .lanes);
     }

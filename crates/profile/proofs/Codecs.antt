@@ -1,7 +1,7 @@
 -- One number, one byte string and the version: what is read back from what is written, and the other way round.
 -- Assumes nothing.
 use Prim.Native.Nat.{ℕ, suc, _+_, _/_, _%_, _≤_}
-use mathlib.Core.Bool.{Bool, true, false, cond, or-true, true≢false, false≢true}
+use mathlib.Core.Bool.{Bool, true, false, not, cond, or-true, true≢false, false≢true}
 use mathlib.Core.List.{List, [], _∷_}
 use mathlib.Core.Option.{none, some}
 use mathlib.Core.Path.{_≡_, refl, sym, _∙_, ap}
@@ -10,7 +10,7 @@ use lib.Dec.{leb, eqb}
 use lib.ListN.{length}
 use borrow.Author.Tests.{eqb-true, eq-eqb, leb-true}
 use Rattle.text.specs.Text.{within, all, empty, broken, isByte}
-use Rattle.text.proofs.Tests.{both, and-true, not-of-true, is-true, from-within, to-within}
+use Rattle.text.proofs.Tests.{both, and-true, not-of-true, is-true, is-false, from-within, to-within}
 use Rattle.text.proofs.Lists.{all-append, all-has}
 use Rattle.b64.specs.Lengths.{charsOf}
 use Rattle.b64.specs.B64.{canonical, decode, encode}
@@ -22,14 +22,14 @@ use Rattle.decimal.specs.declared.reader.Limited.the-variants.{Malformed, Outsi
 use Rattle.decimal.proofs.DecimalLaws.{by-tens, digits-small, digits-step, length-pos, length-digits}
 use Rattle.decimal.proofs.NumeralLaws.{limited-digits, digits-limited}
 use Rattle.grammar.specs.Bytes.{isValueByte, isText}
-use Rattle.grammar.specs.Limits.{longestValue, largestVersion}
+use Rattle.grammar.specs.Limits.{longestValue, longestOutput, largestVersion}
 use Rattle.grammar.specs.Pieces.{Slot, isVersionPiece}
 use Rattle.grammar.specs.Rules.{isValue, isVersion, isOutput}
 use Rattle.grammar.proofs.ValueBytes.{canonical-values}
 use Rattle.profile.specs.Limits.{Profile, inRange, versionAllowed, largest32}
 use Rattle.profile.specs.Fields.{isNumber, misplacedNumber, readNumber, writtenOut, writeNumber, misplacedBytes, isSized, isBytes, readBytes, writeBytes, readVersion, writeVersion}
 use Rattle.profile.specs.Writer.{bytesAllowed}
-use Rattle.profile.specs.Sound.{soundNumber, soundBytes, soundVersions}
+use Rattle.profile.specs.Sound.{soundNumber, textWithin, soundVersions}
 use Rattle.profile.specs.declared.limits.NumberRule.{NumberRule}
 use Rattle.profile.specs.declared.limits.NumberRule.the-variants.{Needed, Omitted, Fixed}
 use Rattle.profile.specs.declared.limits.BytesRule.{BytesRule}
@@ -132,53 +132,80 @@ number-forth (Fixed given) n k e =
 -- ---- byte strings
 
 -- a text that is there has a byte
-filled : (t bs : List ℕ) → broken isValue (some t) ≡ false → encode bs ≡ t → (empty bs ≡ false) × (writeBytes bs ≡ some t)
-unfolding isText encode
+filled : (t bs : List ℕ) → empty t ≡ false → encode bs ≡ t → (empty bs ≡ false) × (writeBytes bs ≡ some t)
+unfolding encode
 filled [] bs e q = absurd (true≢false e)
 filled (c ∷ t) [] e q = let z : 0 ≡ suc (length t) = ap length q in absurd (omega arith)
 filled (c ∷ t) (b ∷ bs) e q = (refl, ap {B = Slot} some q)
 
-pub bytes-back : (r : BytesRule) (s : Slot) → broken isValue s ≡ false → broken (isBytes r) s ≡ false
+pub bytes-back : (r : BytesRule) (s : Slot) → broken (λ t. not (empty t)) s ≡ false → broken (isBytes r) s ≡ false
     → (bytesAllowed r (readBytes s) ≡ true) × (writeBytes (readBytes s) ≡ s) × (all isByte (readBytes s) ≡ true)
 bytes-back r none v e = (refl, refl, refl)
 bytes-back r (some t) v e =
     let q = both (canonical t) (isSized r t) (is-true (isBytes r t) e) in
-    let u = filled t (decode t) v (encode-decode t (q .0)) in
+    let u = filled t (decode t) (is-false (empty t) (is-true (not (empty t)) v)) (encode-decode t (q .0)) in
     (rw (u .0, q .1), u .1, bytes-decode t (q .0))
 
-pub record BytesWritten (r : BytesRule) (bs : List ℕ) (s : Slot) : Type 0 where
+-- a value and an output that are there have a byte
+some-byte : (most : ℕ) (t : List ℕ) → within 1 most (length t) ≡ true → not (empty t) ≡ true
+some-byte most [] e = absurd (false≢true e)
+some-byte most (c ∷ t) e = refl
+
+pub value-filled : (s : Slot) → broken isValue s ≡ false → broken (λ t. not (empty t)) s ≡ false
+unfolding isText
+value-filled none e = refl
+value-filled (some t) e = not-of-true (some-byte longestValue t (both (within 1 longestValue (length t)) (all isValueByte t) (is-true (isValue t) e) .0))
+
+pub output-filled : (s : Slot) → broken isOutput s ≡ false → broken (λ t. not (empty t)) s ≡ false
+unfolding isOutput
+output-filled none e = refl
+output-filled (some t) e = not-of-true (some-byte longestOutput t (both (within 1 longestOutput (length t)) (canonical t) (is-true (isOutput t) e) .0))
+
+-- what a written slot satisfies, where a text may have so many characters
+pub record BytesWritten (most : ℕ) (r : BytesRule) (bs : List ℕ) (s : Slot) : Type 0 where
   pub placed : misplacedBytes r s ≡ false
   pub bytes : broken (isBytes r) s ≡ false
   pub sized : broken (isSized r) s ≡ false
   pub reads : readBytes s ≡ bs
-  pub good : broken isValue s ≡ false
-  pub output : broken isOutput s ≡ false
+  pub counted : broken (λ t. within 1 most (length t)) s ≡ false
+  pub text-is : broken canonical s ≡ false
 
-pub bytes-forth : (r : BytesRule) (bs : List ℕ) → soundBytes r ≡ true → all isByte bs ≡ true → bytesAllowed r bs ≡ true → BytesWritten r bs (writeBytes bs)
-unfolding isOutput isText
-bytes-forth r [] k a e = record { placed = go r; bytes = refl; sized = refl; reads = refl; good = refl; output = refl }
+pub bytes-forth : (most : ℕ) (r : BytesRule) (bs : List ℕ) → textWithin most r ≡ true → all isByte bs ≡ true → bytesAllowed r bs ≡ true
+    → BytesWritten most r bs (writeBytes bs)
+bytes-forth most r [] k a e = record { placed = go r; bytes = refl; sized = refl; reads = refl; counted = refl; text-is = refl }
   where
     go : (r : BytesRule) → misplacedBytes r none ≡ false
     go (Sized low high) = refl
     go Barred = refl
-bytes-forth (Sized low high) (b ∷ bs) k a e =
+bytes-forth most (Sized low high) (b ∷ bs) k a e =
     let x = b ∷ bs in
     let d = decode-encode x a in
     let c = canonical-encode x a in
     let l = length-encode x in
     let w = from-within (low .0) (high .0) (length x) e in
-    let h = leb-true (charsOf (high .0)) longestValue k in
-    let n = to-within 1 128 (length (encode x)) (omega arith) (omega arith) in
+    let h = leb-true (charsOf (high .0)) most k in
+    let n = to-within 1 most (length (encode x)) (omega arith) (omega arith) in
     let z : isSized (Sized low high) (encode x) ≡ true = ap (λ (l : List ℕ). within (low .0) (high .0) (length l)) d ∙ e in
     record {
       placed = refl;
       bytes = not-of-true (and-true c z);
       sized = not-of-true z;
       reads = d;
-      good = not-of-true (and-true n (canonical-values (encode x) c));
-      output = not-of-true (and-true n c);
+      counted = not-of-true n;
+      text-is = not-of-true c;
     }
-bytes-forth Barred (b ∷ bs) k a e = absurd (false≢true e)
+bytes-forth most Barred (b ∷ bs) k a e = absurd (false≢true e)
+
+-- it is a value, or an output, where its limit is theirs
+pub written-value : (s : Slot) → broken (λ t. within 1 longestValue (length t)) s ≡ false → broken canonical s ≡ false → broken isValue s ≡ false
+unfolding isText
+written-value none n c = refl
+written-value (some t) n c = not-of-true (and-true (is-true (within 1 longestValue (length t)) n) (canonical-values t (is-true (canonical t) c)))
+
+pub written-output : (s : Slot) → broken (λ t. within 1 longestOutput (length t)) s ≡ false → broken canonical s ≡ false → broken isOutput s ≡ false
+unfolding isOutput
+written-output none n c = refl
+written-output (some t) n c = not-of-true (and-true (is-true (within 1 longestOutput (length t)) n) (is-true (canonical t) c))
 
 -- ---- the version
 
@@ -199,7 +226,7 @@ pub record VersionWritten (v : Version) (s : Slot) : Type 0 where
   pub version : broken isVersion s ≡ false
   pub reads : readVersion s ≡ v
 
-pub version-forth : (r : Profile) (v : Version) → soundVersions (r .versions) ≡ true → versionAllowed r v ≡ true → VersionWritten v (writeVersion v)
+pub version-forth : (r : Profile) (v : Version) → soundVersions (r .versions) ≡ true → versionAllowed (r .versions) v ≡ true → VersionWritten v (writeVersion v)
 unfolding isVersion
 version-forth r Absent k e = record { piece = refl; version = refl; reads = refl }
 version-forth r (Number n) k e =

@@ -10,17 +10,17 @@ use Rattle.profile.specs.Fields.{FieldSet}
 use Rattle.profile.specs.Reader.{answer, fieldsOf}
 use Rattle.profile.specs.Writer.{OfBytes, Permitted, refusal, formatted}
 use Rattle.profile.specs.Sound.{sound}
-use Rattle.profile.proofs.Kept.{kept, kept-zero, kept-of, permitted-of}
+use Rattle.profile.proofs.Allows.{allowed, allowed-zero}
 use Rattle.profile.proofs.Written.{written}
 use Rattle.profile.proofs.Accepted.{accepted}
 
 -- ---- permitted fields and the writer's number
 
 pub not-refused : (e : List Profile) (f : FieldSet) → Permitted e f → refusal e f ≡ 0
-not-refused e f h = kept-zero e f (kept-of e f h)
+not-refused e f h = allowed-zero e f (h .column)
 
 pub permitted : (e : List Profile) (f : FieldSet) → refusal e f ≡ 0 → OfBytes f → Permitted e f
-permitted e f z b = permitted-of e f (kept e f z) b
+permitted e f z b = record { column = allowed e f z; bytes = b }
 
 -- ---- the claims
 

@@ -1,35 +1,30 @@
--- Rows 8 to 15 over limits, as the code has them: what the tests decide, one after the other.
+-- Rows 8 to 15 over a profile, as the code has them: what the tests decide, one after the other.
 -- Assumes nothing.
 use Prim.Native.Nat.{ℕ, _*_, _/_, _<_, _≤_}
-use mathlib.Core.Bool.{Bool, true, false}
+use mathlib.Core.Bool.{Bool, true, false, _||_}
 use mathlib.Core.Path.{_≡_, refl, sym, _∙_, ap}
-use mathlib.Core.List.{List, _++_}
+use mathlib.Core.List.{List, _∷_, _++_}
 use native.Mathlib.Omega.{arith}
 use borrow.Author.Tests.{ltb-true, ltb-false, lt-ltb, le-ltb}
 use lib.Dec.{ltb}
-use Rattle.text.specs.Rows.{Row, firstOf}
-use Rattle.text.proofs.Tests.{three-false}
+use Rattle.text.specs.Rows.{Row, row, firstOf}
 use Rattle.text.proofs.Rows.{rows-stop}
 use Rattle.grammar.specs.Pieces.{Slot}
-use Rattle.profile.specs.Fields.{misplacedNumber, misplacedBytes}
-use Rattle.profile.specs.Reader.{slotAt, misplaced}
+use Rattle.profile.specs.Limits.{Profile}
 use Rattle.profile.specs.ReaderSteps.{NumbersAre, Judged}
 use Rattle.profile.specs.declared.judge.Judgement.{Judgement}
-use Rattle.profile.specs.declared.limits.Limits.{Limits}
 
 -- ---- row 10
 
--- no number is misplaced
-pub placed : (r : Limits) (vs : List Slot) → misplaced r vs ≡ false
-    → (misplacedNumber (r .m) (slotAt vs 0) ≡ false) × (misplacedNumber (r .t) (slotAt vs 1) ≡ false) × (misplacedNumber (r .p) (slotAt vs 2) ≡ false)
-placed r vs h =
-    three-false
-    (misplacedNumber (r .m) (slotAt vs 0))
-    (misplacedNumber (r .t) (slotAt vs 1))
-    (misplacedNumber (r .p) (slotAt vs 2))
-    (misplacedBytes (r .keyid) (slotAt vs 3))
-    (misplacedBytes (r .ad) (slotAt vs 4))
-    h
+module _ (strange missing : Bool) (rs : List Row) where
+  pub ten-strange : strange ≡ true → firstOf (row 10 (strange || missing) ∷ rs) ≡ 10
+  ten-strange e = rw e
+
+  pub ten-missing : strange ≡ false → missing ≡ true → firstOf (row 10 (strange || missing) ∷ rs) ≡ 10
+  ten-missing e h = rw (e, h)
+
+  pub ten-clear : strange ≡ false → missing ≡ false → firstOf (row 10 (strange || missing) ∷ rs) ≡ firstOf rs
+  ten-clear e h = rw (e, h)
 
 -- ---- row 11
 
@@ -43,19 +38,19 @@ lanes m p = go (ltb (m / 8) p) refl
 
 -- ---- the judgement
 
-module _ (rows : List Row) (l : Limits) (vs : List Slot) (j : Judgement) where
+module _ (rows : List Row) (r : Profile) (vs : List Slot) (j : Judgement) where
   -- a row applies
-  pub judged-refused : (n : ℕ) → j ≡ record { number = n; m = 0; t = 0; p = 0 } → firstOf rows ≡ n → (n ≡ 0 → ⊥) → Judged rows l vs j
+  pub judged-refused : (n : ℕ) → j ≡ record { number = n; m = 0; t = 0; p = 0 } → firstOf rows ≡ n → (n ≡ 0 → ⊥) → Judged rows r vs j
   judged-refused n e h z =
       record { number-is = ap (λ (x : Judgement). x .number) e ∙ sym h; numbers-are = λ (o : firstOf rows ≡ 0). absurd (z (sym h ∙ o)) }
 
   -- none does
-  pub judged-accepted : j .number ≡ 0 → firstOf rows ≡ 0 → NumbersAre l vs (j .m) (j .t) (j .p) → Judged rows l vs j
+  pub judged-accepted : j .number ≡ 0 → firstOf rows ≡ 0 → NumbersAre r vs (j .m) (j .t) (j .p) → Judged rows r vs j
   judged-accepted e h n = record { number-is = e ∙ sym h; numbers-are = λ (o : firstOf rows ≡ 0). n }
 
 -- the rows before others already gave the number
-pub judged-before : (rs ts : List Row) (l : Limits) (vs : List Slot) (j : Judgement) → Judged rs l vs j → (j .number ≡ 0 → ⊥)
-    → (rows : List Row) → firstOf rows ≡ firstOf (rs ++ ts) → Judged rows l vs j
-judged-before rs ts l vs j d z rows e =
+pub judged-before : (rs ts : List Row) (r : Profile) (vs : List Slot) (j : Judgement) → Judged rs r vs j → (j .number ≡ 0 → ⊥)
+    → (rows : List Row) → firstOf rows ≡ firstOf (rs ++ ts) → Judged rows r vs j
+judged-before rs ts r vs j d z rows e =
     let q : firstOf rows ≡ j .number = e ∙ rows-stop rs ts (j .number) (d .number-is) z in
     record { number-is = sym q; numbers-are = λ (o : firstOf rows ≡ 0). absurd (z (sym q ∙ o)) }

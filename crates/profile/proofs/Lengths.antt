@@ -21,7 +21,7 @@ use Rattle.grammar.proofs.Reading.{whole-long}
 use Rattle.profile.specs.Limits.{Profile, inRange, versionAllowed, editionTwo, room}
 use Rattle.profile.specs.Fields.{FieldSet, writeNumber, writeBytes, writeVersion}
 use Rattle.profile.specs.Reader.{answer}
-use Rattle.profile.specs.Writer.{bytesAllowed, formatted}
+use Rattle.profile.specs.Writer.{bytesAllowed, Allows, formatted}
 use Rattle.profile.specs.PieceTexts.{taggedLength}
 use Rattle.profile.specs.Entries.{reading, refusedReading, decoded}
 use Rattle.profile.specs.declared.limits.NumberRule.{NumberRule}
@@ -32,7 +32,7 @@ use Rattle.profile.specs.declared.fields.ByteString.{ByteString}
 use Rattle.profile.specs.declared.fields.Version.{Version}
 use Rattle.profile.specs.declared.fields.Version.the-variants.{Absent, Number}
 use Rattle.profile.proofs.Table.{at-id}
-use Rattle.profile.proofs.Kept.{Kept, here}
+use Rattle.profile.proofs.Allows.{here}
 use Rattle.profile.proofs.Texts.{formatted-length}
 
 -- ---- the bounds of each text, by its rule
@@ -97,7 +97,7 @@ listed-most (v ∷ vs) n e = go (eqb v n) refl e (listed-most vs n)
     go true q e h = let k : length (digits v) ≡ length (digits n) = ap (λ (i : ℕ). length (digits i)) (eqb-true v n q) in omega arith
     go false q e h = let k = h e in omega arith
 
-version-most : (r : Profile) (v : Version) → versionAllowed r v ≡ true → taggedLength 1 (writeVersion v) ≤ mostVersion (r .versions)
+version-most : (r : Profile) (v : Version) → versionAllowed (r .versions) v ≡ true → taggedLength 1 (writeVersion v) ≤ mostVersion (r .versions)
 version-most r Absent e = omega arith
 version-most r (Number n) e = let h = listed-most (r .versions) n e in omega arith
 
@@ -122,7 +122,7 @@ salted : (salt output : List ℕ) → (empty salt && not (empty output)) ≡ fal
 salted [] output e h = absurd (true≢false (rw h at e))
 salted (b ∷ bs) output e h = refl
 
-pub bounds : (e : List Profile) (f : FieldSet) → Kept (here e f) f
+pub bounds : (e : List Profile) (f : FieldSet) → Allows (here e f) f
     → (length (formatted e f) ≤ longest (here e f)) × (empty (f .output) ≡ false → shortest (here e f) ≤ length (formatted e f))
 unfolding longest shortest
 bounds e f h =
@@ -145,7 +145,7 @@ bounds e f h =
 abbrev pub keepsTo : (ℕ → ℕ) → (ℕ → ℕ) → ℕ → Profile → Bool
 keepsTo most least k r = leb (longest r) (most k) && leb (least k) (shortest r)
 
-pub bounds-at : (e : List Profile) (most least : ℕ → ℕ) → every (keepsTo most least) 1 e ≡ true → (f : FieldSet) → Kept (here e f) f
+pub bounds-at : (e : List Profile) (most least : ℕ → ℕ) → every (keepsTo most least) 1 e ≡ true → (f : FieldSet) → Allows (here e f) f
     → (length (formatted e f) ≤ most (f .numbers .id)) × (empty (f .output) ≡ false → least (f .numbers .id) ≤ length (formatted e f))
 bounds-at e most least kept f h =
     let k = f .numbers .id in
@@ -165,12 +165,12 @@ kept-two : every (keepsTo mostTwo leastTwo) 1 editionTwo ≡ true
 unfolding editionTwo longest shortest digits digitsWithin
 kept-two = refl
 
-pub bounds-two : (f : FieldSet) → Kept (here editionTwo f) f
+pub bounds-two : (f : FieldSet) → Allows (here editionTwo f) f
     → (length (formatted editionTwo f) ≤ mostTwo (f .numbers .id)) × (empty (f .output) ≡ false → leastTwo (f .numbers .id) ≤ length (formatted editionTwo f))
 bounds-two = bounds-at editionTwo mostTwo leastTwo kept-two
 
 -- every string that the writer does not refuse fits the room
-pub most-room : (f : FieldSet) → Kept (here editionTwo f) f → length (formatted editionTwo f) ≤ room
+pub most-room : (f : FieldSet) → Allows (here editionTwo f) f → length (formatted editionTwo f) ≤ room
 most-room f h = go (leb (f .numbers .id) 3) (bounds-two f h .0)
   where
     go : (b : Bool) → length (formatted editionTwo f) ≤ cond b room 171 → length (formatted editionTwo f) ≤ room

@@ -1,7 +1,7 @@
 pub mod Codecs
 pub mod Slots
 pub mod Table
-pub mod Kept
+pub mod Allows
 pub mod Written
 pub mod Accepted
 pub mod Demand3
@@ -11,7 +11,7 @@ pub mod Lengths
 pub mod Strings
 pub mod SlotLaws
 pub mod FieldLaws
-pub mod LimitLaws
+pub mod ColumnLaws
 pub mod ValueLaws
 pub mod JudgeLaws
 pub mod ReadLaws

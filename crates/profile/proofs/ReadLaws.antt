@@ -16,6 +16,7 @@ use Rattle.text.proofs.Tests.{both, is-true}
 use Rattle.text.proofs.Writing.{put-refused}
 use Rattle.text.proofs.Rows.{Clear, clear, rows-stop, rows-pass}
 use Rattle.b64.specs.B64.{sextet, lowBitsZero, canonical, decode, decodeNumber, decoding}
+use Rattle.grammar.specs.Limits.{longestOutput}
 use Rattle.grammar.specs.Pieces.{Slot, pieces, slotOf}
 use Rattle.grammar.specs.Items.{Item, items, itemsOf}
 use Rattle.grammar.specs.Rules.{isItem, isOutput, grammarRows, grammarNumber}
@@ -26,7 +27,7 @@ use Rattle.grammar.specs.declared.places.Piece.the-variants.{Id, Params, Versio
 use Rattle.grammar.specs.declared.places.Span.{Span}
 use Rattle.grammar.specs.declared.places.Places.{Places}
 use Rattle.grammar.proofs.Reading.{accepted-rows, accepted-starts, slot-absent, slot-present, piece-part}
-use Rattle.profile.specs.Limits.{Profile, idOf, profileOf, editionTwo, limitsOf}
+use Rattle.profile.specs.Limits.{Profile, idOf, profileOf, editionTwo}
 use Rattle.profile.specs.Fields.{chosen, isSized, isBytes, readNumber, readBytes, readVersion}
 use Rattle.profile.specs.Reader.{names, slots, strangers, slotAt, rowsFor, profileRows, answer, fieldsOf}
 use Rattle.profile.specs.Entries.{refusedReading, kindOf, reading, decoded}
@@ -103,7 +104,7 @@ canonical-slot r (some t) e = both (canonical t) (isSized r t) (is-true (isBytes
 canonical-output : (o : Slot) → broken isOutput o ≡ false → canonical (textOf o) ≡ true
 unfolding isOutput
 canonical-output none e = canonical-none
-canonical-output (some t) e = both (within 1 128 (length t)) (canonical t) (is-true (isOutput t) e) .1
+canonical-output (some t) e = both (within 1 longestOutput (length t)) (canonical t) (is-true (isOutput t) e) .1
 
 decode-slot : (o : Slot) → decode (textOf o) ≡ readBytes o
 unfolding decode
@@ -141,16 +142,16 @@ found s z places e values id version i v w =
 
 module _ (s : List ℕ) (z : grammarNumber s ≡ 0) (places : Places) (values : Values) (id : ℕ) (version : Version)
     (f : Found s places values id version) (j : Judgement)
-    (d : Judged (rowsFor editionTwo id version (slotsIn (partAt s (places .params)) values) (values .strange) (slotIn s (places .salt)) (slotIn s (places .output)))
-    (limitsOf (profileOf editionTwo id)) (slotsIn (partAt s (places .params)) values) j) where
-  same-rows : rowsFor editionTwo id version (slotsIn (partAt s (places .params)) values) (values .strange) (slotIn s (places .salt)) (slotIn s (places .output))
+    (d : Judged (rowsFor (profileOf editionTwo id) version (slotsIn (partAt s (places .params)) values) (values .strange) (slotIn s (places .salt)) (slotIn s (places .output)))
+    (profileOf editionTwo id) (slotsIn (partAt s (places .params)) values) j) where
+  same-rows : rowsFor (profileOf editionTwo id) version (slotsIn (partAt s (places .params)) values) (values .strange) (slotIn s (places .salt)) (slotIn s (places .output))
       ≡ profileRows editionTwo (pieces s)
-  same-rows = λ i. rowsFor editionTwo (f .id-is i) (f .version-is i) (f .slots-are i) (f .strange-is i) (f .salt-is i) (f .output-is i)
+  same-rows = λ i. rowsFor (profileOf editionTwo (f .id-is i)) (f .version-is i) (f .slots-are i) (f .strange-is i) (f .salt-is i) (f .output-is i)
 
   pub judged-number : answer editionTwo s ≡ j .number
   judged-number = answer-rows editionTwo s z ∙ ap firstOf (sym same-rows) ∙ sym (d .number-is)
 
-  no-row : j .number ≡ 0 → firstOf (rowsFor editionTwo id version (slotsIn (partAt s (places .params)) values) (values .strange) (slotIn s (places .salt)) (slotIn s (places .output))) ≡ 0
+  no-row : j .number ≡ 0 → firstOf (rowsFor (profileOf editionTwo id) version (slotsIn (partAt s (places .params)) values) (values .strange) (slotIn s (places .salt)) (slotIn s (places .output))) ≡ 0
   no-row q = sym (d .number-is) ∙ q
 
   -- the numbers and the kind of an accepted string

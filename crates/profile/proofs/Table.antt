@@ -15,7 +15,7 @@ use Rattle.text.proofs.Table.{every-at}
 use Rattle.grammar.specs.Bytes.{isNameByte, isText}
 use Rattle.grammar.specs.Rules.{isName}
 use Rattle.profile.specs.Limits.{Profile, inRange, versionAllowed, next, idOf, nobody, profileOf, editionTwo}
-use Rattle.profile.specs.Sound.{soundNumber, soundBytes, soundVersions, soundAt, sound, usualAt, usualSound}
+use Rattle.profile.specs.Sound.{soundNumber, soundBytes, soundOutput, soundVersions, soundAt, sound, usualAt, usualSound}
 
 -- ---- a test on each entry
 
@@ -42,7 +42,7 @@ pub record Entry (e : List Profile) (k : ℕ) (r : Profile) : Type 0 where
   pub keyid : soundBytes (r .keyid) ≡ true
   pub ad : soundBytes (r .ad) ≡ true
   pub salt : soundBytes (r .salt) ≡ true
-  pub output : soundBytes (r .output) ≡ true
+  pub output : soundOutput (r .output) ≡ true
 
 entry : (e : List Profile) (k : ℕ) (r : Profile) → r .known ≡ true → soundAt e k r ≡ true → Entry e k r
 entry e k r known h₀ =
@@ -54,7 +54,7 @@ entry e k r known h₀ =
     let h₆ = both _ _ (h₅ .1) in
     let h₇ = both _ _ (h₆ .1) in
     let h₈ = both _ _ (h₇ .1) in
-    let h₉ = both (soundBytes (r .salt)) (soundBytes (r .output)) (h₈ .1) in
+    let h₉ = both (soundBytes (r .salt)) (soundOutput (r .output)) (h₈ .1) in
     record {
       found = eqb-true (idOf e (r .name)) k (h₁ .0);
       named = h₂ .0;
@@ -74,7 +74,7 @@ entry-at e s k h = entry e k (profileOf e k) h (at-id (soundAt e) e s k h)
 
 -- what the second test says: the short writer's numbers are permitted
 pub record UsualEntry (r : Profile) : Type 0 where
-  pub version : versionAllowed r (r .usual .version) ≡ true
+  pub version : versionAllowed (r .versions) (r .usual .version) ≡ true
   pub m : inRange (r .m) (r .usual .m) ≡ true
   pub t : inRange (r .t) (r .usual .t) ≡ true
   pub p : inRange (r .p) (r .usual .p) ≡ true
@@ -83,7 +83,7 @@ pub record UsualEntry (r : Profile) : Type 0 where
 usual-entry : (k : ℕ) (r : Profile) → r .known ≡ true → usualAt k r ≡ true → UsualEntry r
 usual-entry k r known h₀ =
     let u = r .usual in
-    let h₁ = both (versionAllowed r (u .version)) _ (implied (r .known) _ h₀ known) in
+    let h₁ = both (versionAllowed (r .versions) (u .version)) _ (implied (r .known) _ h₀ known) in
     let h₂ = both (inRange (r .m) (u .m)) _ (h₁ .1) in
     let h₃ = both (inRange (r .t) (u .t)) _ (h₂ .1) in
     let h₄ = both (inRange (r .p) (u .p)) (leb (8 * u .p) (u .m)) (h₃ .1) in
@@ -100,17 +100,16 @@ pub known-id : (e : List Profile) (k : ℕ) → profileOf e k .known ≡ true �
 known-id e zero h = absurd (false≢true h)
 known-id e (suc k) h = eqb·suc-zero k
 
--- an id text that is found is the name of its entry
-pub name-of : (e : List Profile) (s : List ℕ) → eqb (idOf e s) 0 ≡ false → (profileOf e (idOf e s) .name ≡ s) × (profileOf e (idOf e s) .known ≡ true)
-name-of [] s h = absurd (true≢false h)
+-- an id text whose entry is known is the name of that entry
+pub name-of : (e : List Profile) (s : List ℕ) → profileOf e (idOf e s) .known ≡ true → profileOf e (idOf e s) .name ≡ s
+name-of [] s h = absurd (false≢true h)
 name-of (r ∷ rs) s h = go (r .known && same s (r .name)) refl (idOf rs s) h (name-of rs s)
   where
-    go : (b : Bool) → (r .known && same s (r .name)) ≡ b → (k : ℕ) → eqb (cond b 1 (next k)) 0 ≡ false
-        → (eqb k 0 ≡ false → (profileOf rs k .name ≡ s) × (profileOf rs k .known ≡ true))
-        → (profileOf (r ∷ rs) (cond b 1 (next k)) .name ≡ s) × (profileOf (r ∷ rs) (cond b 1 (next k)) .known ≡ true)
-    go true q k h f = let p = both (r .known) (same s (r .name)) q in (sym (same-eq s (r .name) (p .1)), p .0)
-    go false q zero h f = absurd (true≢false h)
-    go false q (suc k) h f = f (eqb·suc-zero k)
+    go : (b : Bool) → (r .known && same s (r .name)) ≡ b → (k : ℕ) → profileOf (r ∷ rs) (cond b 1 (next k)) .known ≡ true
+        → (profileOf rs k .known ≡ true → profileOf rs k .name ≡ s) → profileOf (r ∷ rs) (cond b 1 (next k)) .name ≡ s
+    go true q k h f = sym (same-eq s (r .name) (both (r .known) (same s (r .name)) q .1))
+    go false q zero h f = absurd (false≢true h)
+    go false q (suc k) h f = f h
 
 pub edition-two-sound : sound editionTwo ≡ true
 unfolding sound editionTwo isNameByte isText

@@ -10,12 +10,11 @@ use Rattle.text.specs.Text.{text, listOf}
 use Rattle.text.proofs.Joining.{marked, join-marked, append-five, length-five}
 use Rattle.grammar.specs.Pieces.{Slot}
 use Rattle.grammar.specs.Items.{Item, itemText, paramsText}
-use Rattle.profile.specs.Limits.{Profile, limitsOf, profileOf}
+use Rattle.profile.specs.Limits.{Profile, profileOf}
 use Rattle.profile.specs.Fields.{FieldSet, writeNumber, writeBytes, writeVersion}
 use Rattle.profile.specs.Reader.{names}
 use Rattle.profile.specs.Writer.{item, itemList, fieldSlots, fieldPieces, formatted}
 use Rattle.profile.specs.PieceTexts.{tagged, taggedLength, itemsText, dollared, piecesText, piecesLength}
-use Rattle.profile.specs.declared.limits.Limits.{Limits}
 
 -- ---- tagged texts, each with a separator before it
 
@@ -35,7 +34,7 @@ params-marked (i ∷ is) = ap (λ (l : List ℕ). 36 ∷ l) (join-marked 44 (ite
 
 -- ---- the items and the pieces
 
-items-are : (r : Profile) (f : FieldSet) → marked 44 (map itemText (itemList names (fieldSlots r f))) ≡ itemsText (limitsOf r) (f .numbers) (f .keyid) (f .ad)
+items-are : (r : Profile) (f : FieldSet) → marked 44 (map itemText (itemList names (fieldSlots r f))) ≡ itemsText r (f .numbers) (f .keyid) (f .ad)
 items-are r f =
     let n = f .numbers in
     let ad = item (text "data") (writeBytes (f .ad)) ++ [] in
@@ -51,7 +50,7 @@ items-are r f =
       append-nil,
     ) (append-five (tagged (text ",m=") (writeNumber (r .m) (n .m))) (tagged (text ",t=") (writeNumber (r .t) (n .t))) (tagged (text ",p=") (writeNumber (r .p) (n .p))) (tagged (text ",keyid=") (writeBytes (f .keyid))) (tagged (text ",data=") (writeBytes (f .ad))))
 
-pub formatted-is : (e : List Profile) (f : FieldSet) → formatted e f ≡ piecesText (limitsOf (profileOf e (f .numbers .id))) (profileOf e (f .numbers .id) .name) f
+pub formatted-is : (e : List Profile) (f : FieldSet) → formatted e f ≡ piecesText (profileOf e (f .numbers .id)) f
 unfolding formatted fieldPieces
 formatted-is e f =
     let r = profileOf e (f .numbers .id) in
@@ -68,7 +67,7 @@ formatted-is e f =
       params-marked (itemList names (fieldSlots r f)),
       items-are r f,
       append-nil (tagged (text "$") (writeBytes (f .output))),
-    ) (append-five (36 ∷ r .name) (tagged (text "$") (writeVersion (f .numbers .version))) (dollared (itemsText (limitsOf r) (f .numbers) (f .keyid) (f .ad))) (tagged (text "$") (writeBytes (f .salt))) (tagged (text "$") (writeBytes (f .output))))
+    ) (append-five (36 ∷ r .name) (tagged (text "$") (writeVersion (f .numbers .version))) (dollared (itemsText r (f .numbers) (f .keyid) (f .ad))) (tagged (text "$") (writeBytes (f .salt))) (tagged (text "$") (writeBytes (f .output))))
 
 -- ---- lengths
 
@@ -80,21 +79,21 @@ pub dollared-length : (s : List ℕ) → length (dollared s) ≡ length s
 dollared-length [] = refl
 dollared-length (c ∷ s) = refl
 
-pub pieces-length : (l : Limits) (name : List ℕ) (f : FieldSet) → length (piecesText l name f) ≡ piecesLength l (length name) f
-pieces-length l name f =
+pub pieces-length : (r : Profile) (f : FieldSet) → length (piecesText r f) ≡ piecesLength r f
+pieces-length r f =
     let n = f .numbers in
-    let m = writeNumber (l .m) (n .m) in
-    let t = writeNumber (l .t) (n .t) in
-    let p = writeNumber (l .p) (n .p) in
+    let m = writeNumber (r .m) (n .m) in
+    let t = writeNumber (r .t) (n .t) in
+    let p = writeNumber (r .p) (n .p) in
     let keyid = writeBytes (f .keyid) in
     let ad = writeBytes (f .ad) in
     let version = writeVersion (n .version) in
     let salt = writeBytes (f .salt) in
     let output = writeBytes (f .output) in
-    let items = itemsText l n (f .keyid) (f .ad) in
+    let items = itemsText r n (f .keyid) (f .ad) in
     omega (
       arith,
-      length-five (36 ∷ name) (tagged (text "$") version) (dollared items) (tagged (text "$") salt) (tagged (text "$") output),
+      length-five (36 ∷ r .name) (tagged (text "$") version) (dollared items) (tagged (text "$") salt) (tagged (text "$") output),
       length-five (tagged (text ",m=") m) (tagged (text ",t=") t) (tagged (text ",p=") p) (tagged (text ",keyid=") keyid) (tagged (text ",data=") ad),
       dollared-length items,
       tagged-length (text ",m=") m,
@@ -108,7 +107,6 @@ pieces-length l name f =
     )
 
 pub formatted-length : (e : List Profile) (f : FieldSet)
-    → length (formatted e f) ≡ piecesLength (limitsOf (profileOf e (f .numbers .id))) (length (profileOf e (f .numbers .id) .name)) f
+    → length (formatted e f) ≡ piecesLength (profileOf e (f .numbers .id)) f
 formatted-length e f =
-    let r = profileOf e (f .numbers .id) in
-    ap length (formatted-is e f) ∙ pieces-length (limitsOf r) (r .name) f
+    ap length (formatted-is e f) ∙ pieces-length (profileOf e (f .numbers .id)) f

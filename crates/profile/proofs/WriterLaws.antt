@@ -10,18 +10,18 @@ use native.Mathlib.Omega.{arith}
 use lib.ListN.{length, set}
 use Rattle.text.specs.Text.{empty}
 use Rattle.text.specs.Place.{hasRoom, Wrote, put}
+use Rattle.text.specs.Rows.{firstOf}
 use Rattle.text.proofs.Writing.{put-clear}
 use Rattle.text.proofs.Lists.{length-filled}
 use Rattle.text.proofs.Writers.{Asked}
 use Rattle.b64.specs.B64.{encode}
-use Rattle.profile.specs.Limits.{isSize, limitsOf, editionTwo, room}
+use Rattle.profile.specs.Limits.{Profile, isSize, editionTwo, room}
 use Rattle.profile.specs.Fields.{FieldSet, writeBytes}
-use Rattle.profile.specs.Writer.{bytesAllowed, refusal, formatted}
+use Rattle.profile.specs.Writer.{bytesAllowed, columnRows, refusal, formatted}
 use Rattle.profile.specs.Entries.{writing}
 use Rattle.profile.specs.PieceTexts.{dollared, piecesText, piecesLength}
 use Rattle.profile.specs.declared.limits.BytesRule.{BytesRule}
-use Rattle.profile.specs.declared.limits.Limits.{Limits}
-use Rattle.profile.proofs.Kept.{here, kept}
+use Rattle.profile.proofs.Allows.{here, allowed}
 use Rattle.profile.proofs.Texts.{formatted-is, formatted-length}
 use Rattle.profile.proofs.Lengths.{most-room}
 
@@ -56,23 +56,27 @@ pub sized-allowed : (r : BytesRule) (bs : List ℕ) → (length bs ≡ 0 → ⊥
 sized-allowed r [] n = absurd (n refl)
 sized-allowed r (b ∷ bs) n = refl
 
--- ---- the whole string, with the limits l of its id; no row applies
+-- ---- the whole string, by the column r of its id; no row applies
 
-module _ (f : FieldSet) (l : Limits) (q : l ≡ limitsOf (here editionTwo f)) (z : refusal editionTwo f ≡ 0) where
-  pub text-by : formatted editionTwo f ≡ piecesText l (here editionTwo f .name) f
-  text-by = formatted-is editionTwo f ∙ ap (λ (k : Limits). piecesText k (here editionTwo f .name) f) (sym q)
+module _ (f : FieldSet) (r : Profile) (q : r ≡ here editionTwo f) (z : firstOf (columnRows r f) ≡ 0) where
+  pub clear-by : refusal editionTwo f ≡ 0
+  unfolding refusal
+  clear-by = ap (λ (k : Profile). firstOf (columnRows k f)) (sym q) ∙ z
 
-  length-by : length (formatted editionTwo f) ≡ piecesLength l (length (here editionTwo f .name)) f
-  length-by = formatted-length editionTwo f ∙ ap (λ (k : Limits). piecesLength k (length (here editionTwo f .name)) f) (sym q)
+  pub text-by : formatted editionTwo f ≡ piecesText r f
+  text-by = formatted-is editionTwo f ∙ ap (λ (k : Profile). piecesText k f) (sym q)
 
-  pub fits-room : piecesLength l (length (here editionTwo f .name)) f ≤ room
-  fits-room = omega (arith, length-by, most-room f (kept editionTwo f z))
+  length-by : length (formatted editionTwo f) ≡ piecesLength r f
+  length-by = formatted-length editionTwo f ∙ ap (λ (k : Profile). piecesLength k f) (sym q)
 
-  -- the room is asked for by the length that the limits say
-  pub string-asked : (buf : List ℕ) (at count : ℕ) → count ≡ piecesLength l (length (here editionTwo f .name)) f → (b : Bool) → b ≡ hasRoom (length buf) at count
+  pub fits-room : piecesLength r f ≤ room
+  fits-room = omega (arith, length-by, most-room f (allowed editionTwo f clear-by))
+
+  -- the room is asked for by the length that the column says
+  pub string-asked : (buf : List ℕ) (at count : ℕ) → count ≡ piecesLength r f → (b : Bool) → b ≡ hasRoom (length buf) at count
       → Asked buf at (formatted editionTwo f) count b
-  string-asked buf at count k b r = record { counted = k ∙ sym length-by; answered = r }
+  string-asked buf at count k b e = record { counted = k ∙ sym length-by; answered = e }
 
   pub writing-clear : (buf : List ℕ) (at : ℕ) → writing editionTwo f buf at ≡ put buf at (formatted editionTwo f)
   unfolding writing
-  writing-clear buf at = put-clear buf at (formatted editionTwo f) (refusal editionTwo f) z
+  writing-clear buf at = put-clear buf at (formatted editionTwo f) (refusal editionTwo f) clear-by

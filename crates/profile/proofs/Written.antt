@@ -14,26 +14,29 @@ use Rattle.text.proofs.Tests.{both, and-true, neither, or-false, not-of-true, i
 use Rattle.text.proofs.Rows.{Clear, zero-of, clear-append}
 use Rattle.text.proofs.Lists.{not-in, has-middle}
 use Rattle.text.proofs.Joining.{marked, join-marked, join-free}
+use Rattle.b64.specs.B64.{canonical}
 use Rattle.decimal.specs.Decimal.{digits}
 use Rattle.grammar.specs.Bytes.{isNameByte, isValueByte, isText}
-use Rattle.grammar.specs.Limits.{mostItems}
+use Rattle.grammar.specs.Limits.{longestValue, longestOutput, mostItems}
 use Rattle.grammar.specs.Pieces.{Slot, Pieces, isVersionPiece, belongs, pieces, string}
 use Rattle.grammar.specs.Items.{Item, itemText, itemsOf, paramsText}
-use Rattle.grammar.specs.Rules.{isName, isValue, isItem, isParams, pieceRows, grammarRows}
+use Rattle.grammar.specs.Rules.{isName, isValue, isItem, isParams, pieceRows, grammarRows, isOutput}
 use Rattle.grammar.specs.Claims.{Sorts}
 use Rattle.grammar.specs.declared.places.Piece.the-variants.{Version as Piece·Version, Params, Salt, Output}
 use Rattle.grammar.proofs.ItemLaws.{joined, items-params, item-free, items-free, name-free, value-free}
 use Rattle.grammar.proofs.PieceLaws.{pieces-string}
 use Rattle.grammar.proofs.Reading.{whole-first}
 use Rattle.grammar.proofs.Longest.{at-most}
+use Rattle.grammar.proofs.ValueBytes.{canonical-values}
 use Rattle.profile.specs.Limits.{Profile, versionAllowed, profileOf}
 use Rattle.profile.specs.Fields.{FieldSet, writeNumber, writeBytes, writeVersion}
 use Rattle.profile.specs.Reader.{names, slots, strangers, rowsFor, profileRows, answer, fieldsFor, carried, fieldsOf}
 use Rattle.profile.specs.Writer.{Permitted, itemList, fieldSlots, fieldPieces, formatted}
 use Rattle.profile.specs.Sound.{sound}
+use Rattle.profile.specs.declared.limits.BytesRule.{BytesRule}
 use Rattle.profile.specs.declared.fields.Version.{Version}
 use Rattle.profile.specs.declared.fields.Version.the-variants.{Absent, Number}
-use Rattle.profile.proofs.Codecs.{digits-values, NumberWritten, number-forth, BytesWritten, bytes-forth, VersionWritten, version-forth}
+use Rattle.profile.proofs.Codecs.{digits-values, NumberWritten, number-forth, BytesWritten, bytes-forth, written-value, written-output, VersionWritten, version-forth}
 use Rattle.profile.proofs.Slots.{slots-list}
 use Rattle.profile.proofs.Table.{Entry, entry-at, known-id}
 
@@ -163,6 +166,11 @@ unfolding isNameByte isValueByte
 value-slot-free none e = tt
 value-slot-free (some s) e = value-free 36 refl refl s (is-true (isValue s) e)
 
+canonical-free : (s : Slot) → broken canonical s ≡ false → Free s
+unfolding isValueByte
+canonical-free none e = tt
+canonical-free (some s) e = not-in isValueByte 36 refl s (canonical-values s (is-true (canonical s) e))
+
 module _ (e : List Profile) (ok : sound e ≡ true) where
   -- ---- what holds of permitted fields and of the texts they are written to
 
@@ -170,23 +178,31 @@ module _ (e : List Profile) (ok : sound e ≡ true) where
     known : profileOf e (f .numbers .id) .known ≡ true
     entry : Entry e (f .numbers .id) r
     version : VersionWritten (f .numbers .version) (writeVersion (f .numbers .version))
-    allowed : versionAllowed r (f .numbers .version) ≡ true
+    allowed : versionAllowed (r .versions) (f .numbers .version) ≡ true
     m : NumberWritten (r .m) (f .numbers .m) (writeNumber (r .m) (f .numbers .m))
     t : NumberWritten (r .t) (f .numbers .t) (writeNumber (r .t) (f .numbers .t))
     p : NumberWritten (r .p) (f .numbers .p) (writeNumber (r .p) (f .numbers .p))
     lanes : 8 * f .numbers .p ≤ f .numbers .m
-    keyid : BytesWritten (r .keyid) (f .keyid) (writeBytes (f .keyid))
-    ad : BytesWritten (r .ad) (f .ad) (writeBytes (f .ad))
-    salt : BytesWritten (r .salt) (f .salt) (writeBytes (f .salt))
-    output : BytesWritten (r .output) (f .output) (writeBytes (f .output))
+    keyid : BytesWritten longestValue (r .keyid) (f .keyid) (writeBytes (f .keyid))
+    ad : BytesWritten longestValue (r .ad) (f .ad) (writeBytes (f .ad))
+    salt : BytesWritten longestValue (r .salt) (f .salt) (writeBytes (f .salt))
+    output : BytesWritten longestOutput (r .output) (f .output) (writeBytes (f .output))
     order : After (writeBytes (f .salt)) (writeBytes (f .output))
 
+  -- keyid, data and salt are values, and the output is one
+  value : {r : BytesRule} {bs : List ℕ} {s : Slot} → BytesWritten longestValue r bs s → broken isValue s ≡ false
+  value {r} {bs} {s} h = written-value s (h .counted) (h .text-is)
+
+  output-is : {r : BytesRule} {bs : List ℕ} {s : Slot} → BytesWritten longestOutput r bs s → broken isOutput s ≡ false
+  output-is {r} {bs} {s} h = written-output s (h .counted) (h .text-is)
+
   facts : (f : FieldSet) → Permitted e f → Facts f (profileOf e (f .numbers .id))
-  facts f h =
+  facts f permitted =
+      let h = permitted .column in
       let n = f .numbers in
       let r = profileOf e (n .id) in
       let E = entry-at e ok (n .id) (h .id) in
-      let b = h .bytes in
+      let b = permitted .bytes in
       record {
         known = h .id;
         entry = E;
@@ -196,17 +212,17 @@ module _ (e : List Profile) (ok : sound e ≡ true) where
         t = number-forth (r .t) (n .t) (E .t) (h .t);
         p = number-forth (r .p) (n .p) (E .p) (h .p);
         lanes = h .lanes;
-        keyid = bytes-forth (r .keyid) (f .keyid) (E .keyid) (b .0) (h .keyid);
-        ad = bytes-forth (r .ad) (f .ad) (E .ad) (b .1) (h .ad);
-        salt = bytes-forth (r .salt) (f .salt) (E .salt) (b .2) (h .salt);
-        output = bytes-forth (r .output) (f .output) (E .output) (b .3) (h .output);
+        keyid = bytes-forth longestValue (r .keyid) (f .keyid) (E .keyid) (b .0) (h .keyid);
+        ad = bytes-forth longestValue (r .ad) (f .ad) (E .ad) (b .1) (h .ad);
+        salt = bytes-forth longestValue (r .salt) (f .salt) (E .salt) (b .2) (h .salt);
+        output = bytes-forth longestOutput (r .output) (f .output) (E .output) (b .3) (h .output);
         order = after (f .salt) (f .output) (h .order);
       }
 
   items-good : (f : FieldSet) (r : Profile) → Facts f r → all isItem (itemList names (fieldSlots r f)) ≡ true
   items-good f r h =
       all-good names (fieldSlots r f) names-good
-      (h .m .good, (h .t .good, (h .p .good, (h .keyid .good, (h .ad .good, tt)))))
+      (h .m .good, (h .t .good, (h .p .good, (value (h .keyid), (value (h .ad), tt)))))
 
   -- ---- the grammar's side
 
@@ -219,15 +235,15 @@ module _ (e : List Profile) (ok : sound e ≡ true) where
       let salt = writeBytes (f .salt) in
       let output = writeBytes (f .output) in
       record {
-        version-fits = version-fit (f .numbers .version) _ (no-version is salt output g (h .salt .good) (h .order));
-        params-fits = params-fit is salt output (h .salt .good) (h .order);
+        version-fits = version-fit (f .numbers .version) _ (no-version is salt output g (value (h .salt)) (h .order));
+        params-fits = params-fit is salt output (value (h .salt)) (h .order);
         salt-fits = salt-fit salt output (h .order);
         output-fits = output-fit output;
         id-free = name-free 36 refl refl (r .name) (h .entry .named);
         others-free =
             add-free (writeVersion (f .numbers .version)) _ (version-free (f .numbers .version))
             (add-free (paramsText is) _ (params-free is g)
-            (add-free salt _ (value-slot-free salt (h .salt .good)) (add-free output _ (value-slot-free output (h .output .good)) tt)));
+            (add-free salt _ (value-slot-free salt (value (h .salt))) (add-free output _ (canonical-free output (h .output .text-is)) tt)));
       }
 
   grammar-clear : (f : FieldSet) → Facts f (profileOf e (f .numbers .id)) → Clear (pieceRows (fieldPieces e f))
@@ -239,7 +255,7 @@ module _ (e : List Profile) (ok : sound e ≡ true) where
         not-of-true (h .entry .named),
         (
           h .version .version,
-          (params-good is (items-good f r h) (omega arith), (h .salt .good, (h .output .output, (refl, tt)))),
+          (params-good is (items-good f r h) (omega arith), (value (h .salt), (output-is (h .output), (refl, tt)))),
         ),
       )
 
@@ -247,10 +263,10 @@ module _ (e : List Profile) (ok : sound e ≡ true) where
 
   -- the rows, at what the pieces are read as
   rows-clear : (f : FieldSet) → Facts f (profileOf e (f .numbers .id))
-      → Clear (rowsFor e (f .numbers .id) (f .numbers .version) (fieldSlots (profileOf e (f .numbers .id)) f) false (writeBytes (f .salt)) (writeBytes (f .output)))
+      → Clear (rowsFor (profileOf e (f .numbers .id)) (f .numbers .version) (fieldSlots (profileOf e (f .numbers .id)) f) false (writeBytes (f .salt)) (writeBytes (f .output)))
   rows-clear f h =
       let n = f .numbers in (
-        known-id e (n .id) (h .known),
+        not-of-true (h .known),
         (
           not-of-true (h .allowed),
           (
@@ -287,7 +303,7 @@ module _ (e : List Profile) (ok : sound e ≡ true) where
       let r = profileOf e (f .numbers .id) in
       let q = read-as f r h in
       subst Clear
-      (λ i. rowsFor e (sym (h .entry .found) i) (sym (h .version .reads) i) (sym (q .0) i) (not (empty (sym (q .1) i))) (writeBytes (f .salt)) (writeBytes (f .output)))
+      (λ i. rowsFor (profileOf e (sym (h .entry .found) i)) (sym (h .version .reads) i) (sym (q .0) i) (not (empty (sym (q .1) i))) (writeBytes (f .salt)) (writeBytes (f .output)))
       (rows-clear f h)
 
   carried-back : (f : FieldSet) → Facts f (profileOf e (f .numbers .id)) → carried e (fieldPieces e f) ≡ f
@@ -296,9 +312,9 @@ module _ (e : List Profile) (ok : sound e ≡ true) where
       let n = f .numbers in
       let r = profileOf e (n .id) in
       let q = read-as f r h in
-      let same-pieces : carried e (fieldPieces e f) ≡ fieldsFor e (n .id) (n .version) (fieldSlots r f) (writeBytes (f .salt)) (writeBytes (f .output)) =
-      λ i. fieldsFor e (h .entry .found i) (h .version .reads i) (q .0 i) (writeBytes (f .salt)) (writeBytes (f .output)) in
-      let same-fields : fieldsFor e (n .id) (n .version) (fieldSlots r f) (writeBytes (f .salt)) (writeBytes (f .output)) ≡ f =
+      let same-pieces : carried e (fieldPieces e f) ≡ fieldsFor r (n .id) (n .version) (fieldSlots r f) (writeBytes (f .salt)) (writeBytes (f .output)) =
+      λ i. fieldsFor (profileOf e (h .entry .found i)) (h .entry .found i) (h .version .reads i) (q .0 i) (writeBytes (f .salt)) (writeBytes (f .output)) in
+      let same-fields : fieldsFor r (n .id) (n .version) (fieldSlots r f) (writeBytes (f .salt)) (writeBytes (f .output)) ≡ f =
       λ i. record {
         numbers = record { id = n .id; version = n .version; m = h .m .reads i; t = h .t .reads i; p = h .p .reads i };
         keyid = h .keyid .reads i;

@@ -42,12 +42,13 @@ reading e s =
 
 -- ---- which algorithm version is meant
 
-abbrev pub meantVersion : Profile → Version → ℕ
-meantVersion r Absent = r .unwritten
-meantVersion r (Number n) = n
+-- the number written; or what an absent one means
+abbrev pub meantVersion : ℕ → Version → ℕ
+meantVersion unwritten Absent = unwritten
+meantVersion unwritten (Number n) = n
 
 abbrev pub meaningOf : List Profile → Reading → Meaning
-meaningOf e r = record { number = r .number; version = meantVersion (profileOf e (r .fields .id)) (r .fields .version) }
+meaningOf e r = record { number = r .number; version = meantVersion (profileOf e (r .fields .id) .unwritten) (r .fields .version) }
 
 -- of a refused string the fields are all-zero, and so is the version
 unfoldable pub meaning : List Profile → List ℕ → Meaning

@@ -58,25 +58,29 @@ misplacedNumber (Omitted low high given) s = false
 misplacedNumber (Fixed given) none = false
 misplacedNumber (Fixed given) (some t) = true
 
-abbrev pub readNumber : NumberRule → Slot → ℕ
-readNumber (Needed low high) none = 0
-readNumber (Omitted low high given) none = given
-readNumber (Fixed given) none = given
-readNumber (Needed low high) (some t) = limitedValue (limitedReading low high t)
-readNumber (Omitted low high given) (some t) = limitedValue (limitedReading low high t)
-readNumber (Fixed given) (some t) = given
+-- what stands for one that is left out
+abbrev pub given : NumberRule → ℕ
+given (Needed low high) = 0
+given (Omitted low high n) = n
+given (Fixed n) = n
 
--- written out, though it is what an omitted one means
+abbrev pub readNumber : NumberRule → Slot → ℕ
+readNumber r none = given r
+readNumber r (some t) = limitedValue (numberReading r t)
+
+-- left out of the string: what an omitted one means, or no parameter
+abbrev pub leftOut : NumberRule → ℕ → Bool
+leftOut (Needed low high) n = false
+leftOut (Omitted low high given) n = eqb n given
+leftOut (Fixed given) n = true
+
+-- written out, though it is to be left out
 abbrev pub writtenOut : NumberRule → Slot → Bool
-writtenOut (Needed low high) s = false
-writtenOut (Omitted low high given) none = false
-writtenOut (Omitted low high given) (some t) = eqb (limitedValue (limitedReading low high t)) given
-writtenOut (Fixed given) s = false
+writtenOut r none = false
+writtenOut r (some t) = leftOut r (readNumber r (some t))
 
 abbrev pub writeNumber : NumberRule → ℕ → Slot
-writeNumber (Needed low high) n = some (digits n)
-writeNumber (Omitted low high given) n = cond (eqb n given) none (some (digits n))
-writeNumber (Fixed given) n = none
+writeNumber r n = cond (leftOut r n) none (some (digits n))
 
 -- ---- one byte string
 

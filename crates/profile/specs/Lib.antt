@@ -1,4 +1,5 @@
 pub mod Limits
+pub mod Columns
 pub mod Fields
 pub mod Reader
 pub mod Writer

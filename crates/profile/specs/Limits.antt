@@ -9,23 +9,16 @@ use Rattle.profile.specs.declared.limits.NumberRule.{NumberRule}
 use Rattle.profile.specs.declared.limits.NumberRule.the-variants.{Needed, Omitted, Fixed}
 use Rattle.profile.specs.declared.limits.BytesRule.{BytesRule}
 use Rattle.profile.specs.declared.limits.BytesRule.the-variants.{Sized, Barred}
-use Rattle.profile.specs.declared.limits.Limits.{Limits}
+use Rattle.profile.specs.declared.limits.Usual.{Usual}
 use Rattle.profile.specs.declared.fields.Version.{Version}
 use Rattle.profile.specs.declared.fields.Version.the-variants.{Absent, Number}
 
--- the numbers that the short writer uses
-pub record Usual : Type 0 where
-  pub version : Version
-  pub m : ℕ
-  pub t : ℕ
-  pub p : ℕ
-
--- 01's profile, a column of its table. `ad` is its `data`, a reserved word here. Ids keep their numbers in every edition, so an entry says whether its id is known.
--- `unwritten` is the algorithm version that a string without a version means
+-- 01's profile, a column of its table. `ad` is its `data`, a reserved word here. Ids keep their numbers in every edition, so an entry says
+-- whether its id is known. `versions` are those that may be written; in every profile a version may also be absent. `unwritten` is the
+-- algorithm version that a string without a version means
 pub record Profile : Type 0 where
   pub known : Bool
   pub name : List ℕ
-  pub unversioned : Bool
   pub versions : List ℕ
   pub unwritten : ℕ
   pub m : NumberRule
@@ -36,11 +29,6 @@ pub record Profile : Type 0 where
   pub salt : BytesRule
   pub output : BytesRule
   pub usual : Usual
-
--- the limits of an entry, as the code has them
-abbrev pub limitsOf : Profile → Limits
-limitsOf r =
-    record { m = r .m; t = r .t; p = r .p; keyid = r .keyid; ad = r .ad; salt = r .salt; output = r .output }
 
 -- ---- what an entry says
 
@@ -61,10 +49,10 @@ abbrev pub isSize : BytesRule → ℕ → Bool
 isSize (Sized low high) n = within (low .0) (high .0) n
 isSize Barred n = false
 
--- an absent version is allowed where the entry says so
-abbrev pub versionAllowed : Profile → Version → Bool
-versionAllowed r Absent = r .unversioned
-versionAllowed r (Number n) = has n (r .versions)
+-- absent, or one of those listed
+abbrev pub versionAllowed : List ℕ → Version → Bool
+versionAllowed vs Absent = true
+versionAllowed vs (Number n) = has n vs
 
 -- ---- ids and their numbers
 
@@ -84,7 +72,6 @@ nobody =
     record {
       known = false;
       name = [];
-      unversioned = true;
       versions = [];
       unwritten = 0;
       m = Fixed 0;
@@ -126,7 +113,6 @@ argon2 name =
     record {
       known = true;
       name = name;
-      unversioned = true;
       versions = 16 ∷ 19 ∷ [];
       unwritten = absentMeans;
       m = Needed 1 largest32;
@@ -144,7 +130,6 @@ pbkdf2 name =
     record {
       known = true;
       name = name;
-      unversioned = true;
       versions = [];
       unwritten = 0;
       m = Fixed 0;

@@ -7,9 +7,9 @@ use mathlib.Core.Option.{none, some}
 use lib.ListN.{length}
 use Rattle.text.specs.Text.{text}
 use Rattle.grammar.specs.Pieces.{Slot}
+use Rattle.profile.specs.Limits.{Profile}
 use Rattle.profile.specs.Fields.{FieldSet, writeNumber, writeBytes, writeVersion}
 use Rattle.profile.specs.declared.fields.Fields.{Fields}
-use Rattle.profile.specs.declared.limits.Limits.{Limits}
 
 -- a text that may not be there, with its tag before it
 abbrev pub tagged : List ℕ → Slot → List ℕ
@@ -22,16 +22,16 @@ taggedLength tag none = 0
 taggedLength tag (some t) = tag + length t
 
 -- the numbers as items, each with a comma before it
-abbrev pub costsText : Limits → Fields → List ℕ
-costsText l n =
-    tagged (text ",m=") (writeNumber (l .m) (n .m))
-    ++ tagged (text ",t=") (writeNumber (l .t) (n .t))
-    ++ tagged (text ",p=") (writeNumber (l .p) (n .p))
+abbrev pub costsText : Profile → Fields → List ℕ
+costsText r n =
+    tagged (text ",m=") (writeNumber (r .m) (n .m))
+    ++ tagged (text ",t=") (writeNumber (r .t) (n .t))
+    ++ tagged (text ",p=") (writeNumber (r .p) (n .p))
 
 -- and keyid and data
-abbrev pub itemsText : Limits → Fields → List ℕ → List ℕ → List ℕ
-itemsText l n keyid ad =
-    costsText l n
+abbrev pub itemsText : Profile → Fields → List ℕ → List ℕ → List ℕ
+itemsText r n keyid ad =
+    costsText r n
     ++ tagged (text ",keyid=") (writeBytes keyid)
     ++ tagged (text ",data=") (writeBytes ad)
 
@@ -41,32 +41,32 @@ dollared [] = []
 dollared (c ∷ s) = 36 ∷ s
 
 -- the pieces before the salt
-abbrev pub headText : Limits → List ℕ → Fields → List ℕ → List ℕ → List ℕ
-headText l name n keyid ad =
-    (36 ∷ name)
+abbrev pub headText : Profile → Fields → List ℕ → List ℕ → List ℕ
+headText r n keyid ad =
+    (36 ∷ r .name)
     ++ tagged (text "$") (writeVersion (n .version))
-    ++ dollared (itemsText l n keyid ad)
+    ++ dollared (itemsText r n keyid ad)
 
 -- the whole string
-abbrev pub piecesText : Limits → List ℕ → FieldSet → List ℕ
-piecesText l name f =
-    headText l name (f .numbers) (f .keyid) (f .ad)
+abbrev pub piecesText : Profile → FieldSet → List ℕ
+piecesText r f =
+    headText r (f .numbers) (f .keyid) (f .ad)
     ++ tagged (text "$") (writeBytes (f .salt))
     ++ tagged (text "$") (writeBytes (f .output))
 
 -- ---- lengths
 
-abbrev pub costsLength : Limits → Fields → ℕ
-costsLength l n =
-    taggedLength 3 (writeNumber (l .m) (n .m))
-    + taggedLength 3 (writeNumber (l .t) (n .t))
-    + taggedLength 3 (writeNumber (l .p) (n .p))
+abbrev pub costsLength : Profile → Fields → ℕ
+costsLength r n =
+    taggedLength 3 (writeNumber (r .m) (n .m))
+    + taggedLength 3 (writeNumber (r .t) (n .t))
+    + taggedLength 3 (writeNumber (r .p) (n .p))
 
-abbrev pub piecesLength : Limits → ℕ → FieldSet → ℕ
-piecesLength l name f =
-    1 + name
+abbrev pub piecesLength : Profile → FieldSet → ℕ
+piecesLength r f =
+    1 + length (r .name)
     + taggedLength 1 (writeVersion (f .numbers .version))
-    + costsLength l (f .numbers)
+    + costsLength r (f .numbers)
     + taggedLength 7 (writeBytes (f .keyid))
     + taggedLength 6 (writeBytes (f .ad))
     + taggedLength 1 (writeBytes (f .salt))

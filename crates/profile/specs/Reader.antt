@@ -4,17 +4,16 @@ use Prim.Native.Nat.{ℕ, _*_}
 use mathlib.Core.Bool.{Bool, not, _||_}
 use mathlib.Core.List.{List, [], _∷_, _++_}
 use mathlib.Core.Option.{Option, none, some}
-use lib.Dec.{ltb, eqb}
+use lib.Dec.{ltb}
 use lib.ListN.{getD}
 use Rattle.text.specs.Text.{text, same, empty, headIf, tailIf, broken}
 use Rattle.text.specs.Rows.{Row, row, firstOf}
 use Rattle.grammar.specs.Pieces.{Slot, Pieces, pieces}
 use Rattle.grammar.specs.Items.{Item, itemsOf}
 use Rattle.grammar.specs.Rules.{grammarRows}
-use Rattle.profile.specs.Limits.{Profile, limitsOf, versionAllowed, idOf, profileOf}
+use Rattle.profile.specs.Limits.{Profile, versionAllowed, idOf, profileOf}
 use Rattle.profile.specs.Fields.{FieldSet, isNumber, misplacedNumber, readNumber, writtenOut, misplacedBytes, isSized, isBytes, readBytes, readVersion}
 use Rattle.profile.specs.declared.limits.NumberRule.{NumberRule}
-use Rattle.profile.specs.declared.limits.Limits.{Limits}
 use Rattle.profile.specs.declared.fields.Version.{Version}
 
 -- ---- parameters by name, in order
@@ -42,57 +41,55 @@ strangers (n ∷ ns) is = strangers ns (tailIf (named n) is)
 abbrev pub slotAt : List Slot → ℕ → Slot
 slotAt vs k = getD vs k none
 
--- ---- the rows, of the limits l and the values vs of the names
+-- ---- the rows, of the profile r and the values vs of the names
 
 -- names missing or unknown to the profile
-abbrev pub misplaced : Limits → List Slot → Bool
-misplaced l vs =
-    misplacedNumber (l .m) (slotAt vs 0)
-    || misplacedNumber (l .t) (slotAt vs 1)
-    || misplacedNumber (l .p) (slotAt vs 2)
-    || misplacedBytes (l .keyid) (slotAt vs 3)
-    || misplacedBytes (l .ad) (slotAt vs 4)
+abbrev pub misplaced : Profile → List Slot → Bool
+misplaced r vs =
+    misplacedNumber (r .m) (slotAt vs 0)
+    || misplacedNumber (r .t) (slotAt vs 1)
+    || misplacedNumber (r .p) (slotAt vs 2)
+    || misplacedBytes (r .keyid) (slotAt vs 3)
+    || misplacedBytes (r .ad) (slotAt vs 4)
 
 -- a number: not a permitted decimal, or out of range
 abbrev pub numberRow : NumberRule → Slot → List Row
 numberRow r s = row 11 (broken (isNumber r) s) ∷ []
 
 -- m, t and p, then m < 8p
-abbrev pub numberRows : Limits → List Slot → List Row
-numberRows l vs =
-    numberRow (l .m) (slotAt vs 0)
-    ++ (numberRow (l .t) (slotAt vs 1)
-    ++ (numberRow (l .p) (slotAt vs 2)
-    ++ (row 11 (ltb (readNumber (l .m) (slotAt vs 0)) (8 * readNumber (l .p) (slotAt vs 2))) ∷ [])))
+abbrev pub numberRows : Profile → List Slot → List Row
+numberRows r vs =
+    numberRow (r .m) (slotAt vs 0)
+    ++ (numberRow (r .t) (slotAt vs 1)
+    ++ (numberRow (r .p) (slotAt vs 2)
+    ++ (row 11 (ltb (readNumber (r .m) (slotAt vs 0)) (8 * readNumber (r .p) (slotAt vs 2))) ∷ [])))
 
 -- keyid and data, then a number written out
-abbrev pub spellingRows : Limits → List Slot → List Row
-spellingRows l vs =
-    row 12 (broken (isBytes (l .keyid)) (slotAt vs 3))
-    ∷ row 12 (broken (isBytes (l .ad)) (slotAt vs 4))
-    ∷ row 13 (writtenOut (l .m) (slotAt vs 0))
-    ∷ row 13 (writtenOut (l .t) (slotAt vs 1))
-    ∷ row 13 (writtenOut (l .p) (slotAt vs 2))
+abbrev pub spellingRows : Profile → List Slot → List Row
+spellingRows r vs =
+    row 12 (broken (isBytes (r .keyid)) (slotAt vs 3))
+    ∷ row 12 (broken (isBytes (r .ad)) (slotAt vs 4))
+    ∷ row 13 (writtenOut (r .m) (slotAt vs 0))
+    ∷ row 13 (writtenOut (r .t) (slotAt vs 1))
+    ∷ row 13 (writtenOut (r .p) (slotAt vs 2))
     ∷ []
 
--- for the id's number k, the version, the values of the names, whether items are left, the salt and the output
-abbrev pub rowsFor : List Profile → ℕ → Version → List Slot → Bool → Slot → Slot → List Row
-rowsFor e k v vs strange salt output =
-    let r = profileOf e k in
-    let l = limitsOf r in
-    row 8 (eqb k 0)
-    ∷ row 9 (not (versionAllowed r v))
-    ∷ row 10 (strange || misplaced l vs)
-    ∷ (numberRows l vs
-    ++ (spellingRows l vs
-    ++ (row 14 (broken (isBytes (l .salt)) salt)
-    ∷ row 15 (broken (isSized (l .output)) output)
+-- for the profile, the version, the values of the names, whether items are left, the salt and the output
+abbrev pub rowsFor : Profile → Version → List Slot → Bool → Slot → Slot → List Row
+rowsFor r v vs strange salt output =
+    row 8 (not (r .known))
+    ∷ row 9 (not (versionAllowed (r .versions) v))
+    ∷ row 10 (strange || misplaced r vs)
+    ∷ (numberRows r vs
+    ++ (spellingRows r vs
+    ++ (row 14 (broken (isBytes (r .salt)) salt)
+    ∷ row 15 (broken (isSized (r .output)) output)
     ∷ [])))
 
 abbrev pub profileRows : List Profile → Pieces → List Row
 profileRows e p =
     let is = itemsOf (p .params) in
-    rowsFor e (idOf e (p .id)) (readVersion (p .version)) (slots names is) (not (empty (strangers names is))) (p .salt) (p .output)
+    rowsFor (profileOf e (idOf e (p .id))) (readVersion (p .version)) (slots names is) (not (empty (strangers names is))) (p .salt) (p .output)
 
 -- the reader's number: rows 1 to 7 are the grammar's. A string is accepted (01) where it is 0
 unfoldable pub answer : List Profile → List ℕ → ℕ
@@ -100,9 +97,9 @@ answer e s = firstOf (grammarRows s ++ profileRows e (pieces s))
 
 -- ---- the fields
 
-abbrev pub fieldsFor : List Profile → ℕ → Version → List Slot → Slot → Slot → FieldSet
-fieldsFor e k v vs salt output =
-    let r = profileOf e k in
+-- for the profile, the id's number, the version, the values of the names, the salt and the output
+abbrev pub fieldsFor : Profile → ℕ → Version → List Slot → Slot → Slot → FieldSet
+fieldsFor r k v vs salt output =
     record {
       numbers =
           record {
@@ -120,7 +117,8 @@ fieldsFor e k v vs salt output =
 
 abbrev pub carried : List Profile → Pieces → FieldSet
 carried e p =
-    fieldsFor e (idOf e (p .id)) (readVersion (p .version)) (slots names (itemsOf (p .params))) (p .salt) (p .output)
+    let k = idOf e (p .id) in
+    fieldsFor (profileOf e k) k (readVersion (p .version)) (slots names (itemsOf (p .params))) (p .salt) (p .output)
 
 -- the fields that an accepted string carries: what its pieces say
 unfoldable pub fieldsOf : List Profile → List ℕ → FieldSet

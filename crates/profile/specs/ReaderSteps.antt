@@ -13,12 +13,11 @@ use Rattle.grammar.specs.Pieces.{Slot}
 use Rattle.grammar.specs.Items.{Item}
 use Rattle.grammar.specs.Parts.{partAt, textOf}
 use Rattle.grammar.specs.declared.places.Span.{Span}
-use Rattle.profile.specs.Limits.{editionTwo}
+use Rattle.profile.specs.Limits.{Profile, editionTwo}
 use Rattle.profile.specs.Fields.{chosen, readNumber}
 use Rattle.profile.specs.Reader.{names, named, itemValue, slots, strangers, slotAt, fieldsOf}
 use Rattle.profile.specs.Entries.{reading}
 use Rattle.profile.specs.declared.judge.Judgement.{Judgement}
-use Rattle.profile.specs.declared.limits.Limits.{Limits}
 use Rattle.profile.specs.declared.fields.ByteString.{ByteString}
 use Rattle.profile.specs.declared.fields.ByteString.the-variants.{Keyid, Data, Salt, Output}
 use Rattle.profile.specs.declared.reader.Whole.{Whole}
@@ -48,15 +47,15 @@ pub record ValuesAre (params : List ℕ) (is : List Item) (v : Values) : Type 0 
 -- ---- the judge
 
 -- the numbers read
-pub record NumbersAre (l : Limits) (vs : List Slot) (m t p : ℕ) : Type 0 where
-  pub m-is : m ≡ readNumber (l .m) (slotAt vs 0)
-  pub t-is : t ≡ readNumber (l .t) (slotAt vs 1)
-  pub p-is : p ≡ readNumber (l .p) (slotAt vs 2)
+pub record NumbersAre (r : Profile) (vs : List Slot) (m t p : ℕ) : Type 0 where
+  pub m-is : m ≡ readNumber (r .m) (slotAt vs 0)
+  pub t-is : t ≡ readNumber (r .t) (slotAt vs 1)
+  pub p-is : p ≡ readNumber (r .p) (slotAt vs 2)
 
 -- the first row that applies; and where none does, the numbers read
-pub record Judged (rows : List Row) (l : Limits) (vs : List Slot) (j : Judgement) : Type 0 where
+pub record Judged (rows : List Row) (r : Profile) (vs : List Slot) (j : Judgement) : Type 0 where
   pub number-is : j .number ≡ firstOf rows
-  pub numbers-are : firstOf rows ≡ 0 → NumbersAre l vs (j .m) (j .t) (j .p)
+  pub numbers-are : firstOf rows ≡ 0 → NumbersAre r vs (j .m) (j .t) (j .p)
 
 -- ---- one reading
 

@@ -6,7 +6,7 @@ use mathlib.Core.List.{List}
 use lib.Dec.{leb, eqb}
 use Rattle.text.specs.Text.{within, all, every}
 use Rattle.b64.specs.Lengths.{charsOf}
-use Rattle.grammar.specs.Limits.{longestValue, largestVersion}
+use Rattle.grammar.specs.Limits.{longestValue, longestOutput, largestVersion}
 use Rattle.grammar.specs.Rules.{isName}
 use Rattle.profile.specs.Limits.{Profile, inRange, versionAllowed, idOf, largest32}
 use Rattle.profile.specs.declared.limits.NumberRule.{NumberRule}
@@ -20,10 +20,17 @@ soundNumber (Needed low high) = leb high largest32
 soundNumber (Omitted low high given) = leb high largest32 && within low high given
 soundNumber (Fixed given) = true
 
--- byte strings whose text the grammar takes; its limit for an output is the same number
+-- byte strings whose text has at most so many characters
+abbrev pub textWithin : ℕ → BytesRule → Bool
+textWithin most (Sized low high) = leb (charsOf (high .0)) most
+textWithin most Barred = true
+
+-- byte strings whose text the grammar takes as a value or a salt; and as an output
 abbrev pub soundBytes : BytesRule → Bool
-soundBytes (Sized low high) = leb (charsOf (high .0)) longestValue
-soundBytes Barred = true
+soundBytes r = textWithin longestValue r
+
+abbrev pub soundOutput : BytesRule → Bool
+soundOutput r = textWithin longestOutput r
 
 -- version numbers that the grammar takes
 abbrev pub soundVersions : List ℕ → Bool
@@ -36,7 +43,7 @@ soundAt e k r =
     && (isName (r .name)
     && (soundVersions (r .versions)
     && (soundNumber (r .m)
-    && (soundNumber (r .t) && (soundNumber (r .p) && (soundBytes (r .keyid) && (soundBytes (r .ad) && (soundBytes (r .salt) && soundBytes (r .output))))))))))
+    && (soundNumber (r .t) && (soundNumber (r .p) && (soundBytes (r .keyid) && (soundBytes (r .ad) && (soundBytes (r .salt) && soundOutput (r .output))))))))))
 
 unfoldable pub sound : List Profile → Bool
 sound e = every (soundAt e) 1 e
@@ -45,7 +52,7 @@ sound e = every (soundAt e) 1 e
 abbrev pub usualAt : ℕ → Profile → Bool
 usualAt k r =
     let u = r .usual in
-    not (r .known) || (versionAllowed r (u .version)
+    not (r .known) || (versionAllowed (r .versions) (u .version)
     && (inRange (r .m) (u .m) && (inRange (r .t) (u .t) && (inRange (r .p) (u .p) && leb (8 * u .p) (u .m)))))
 
 unfoldable pub usualSound : List Profile → Bool

@@ -11,11 +11,10 @@ use Rattle.text.specs.Text.{all, empty, isByte}
 use Rattle.text.specs.Rows.{Row, row, firstOf}
 use Rattle.grammar.specs.Pieces.{Slot, Pieces, string}
 use Rattle.grammar.specs.Items.{Item, paramsText}
-use Rattle.profile.specs.Limits.{Profile, limitsOf, inRange, isSize, versionAllowed, profileOf}
+use Rattle.profile.specs.Limits.{Profile, inRange, isSize, versionAllowed, profileOf}
 use Rattle.profile.specs.Fields.{FieldSet, fieldSet, writeNumber, writeBytes, writeVersion}
 use Rattle.profile.specs.Reader.{names}
 use Rattle.profile.specs.declared.limits.BytesRule.{BytesRule}
-use Rattle.profile.specs.declared.limits.Limits.{Limits}
 use Rattle.profile.specs.declared.fields.Fields.{Fields}
 
 -- empty, or of a permitted size
@@ -29,52 +28,59 @@ abbrev pub OfBytes : FieldSet → Type 0
 OfBytes f =
     (all isByte (f .keyid) ≡ true) × (all isByte (f .ad) ≡ true) × (all isByte (f .salt) ≡ true) × (all isByte (f .output) ≡ true)
 
-pub record Permitted (e : List Profile) (f : FieldSet) : Type 0 where
-  pub id : profileOf e (f .numbers .id) .known ≡ true
-  pub version : versionAllowed (profileOf e (f .numbers .id)) (f .numbers .version) ≡ true
-  pub m : inRange (profileOf e (f .numbers .id) .m) (f .numbers .m) ≡ true
-  pub t : inRange (profileOf e (f .numbers .id) .t) (f .numbers .t) ≡ true
-  pub p : inRange (profileOf e (f .numbers .id) .p) (f .numbers .p) ≡ true
+-- the column r allows the fields, whatever their byte strings hold
+pub record Allows (r : Profile) (f : FieldSet) : Type 0 where
+  pub id : r .known ≡ true
+  pub version : versionAllowed (r .versions) (f .numbers .version) ≡ true
+  pub m : inRange (r .m) (f .numbers .m) ≡ true
+  pub t : inRange (r .t) (f .numbers .t) ≡ true
+  pub p : inRange (r .p) (f .numbers .p) ≡ true
   pub lanes : 8 * f .numbers .p ≤ f .numbers .m
-  pub keyid : bytesAllowed (profileOf e (f .numbers .id) .keyid) (f .keyid) ≡ true
-  pub ad : bytesAllowed (profileOf e (f .numbers .id) .ad) (f .ad) ≡ true
-  pub salt : bytesAllowed (profileOf e (f .numbers .id) .salt) (f .salt) ≡ true
-  pub output : bytesAllowed (profileOf e (f .numbers .id) .output) (f .output) ≡ true
+  pub keyid : bytesAllowed (r .keyid) (f .keyid) ≡ true
+  pub ad : bytesAllowed (r .ad) (f .ad) ≡ true
+  pub salt : bytesAllowed (r .salt) (f .salt) ≡ true
+  pub output : bytesAllowed (r .output) (f .output) ≡ true
   pub order : (empty (f .salt) && not (empty (f .output))) ≡ false
+
+pub record Permitted (e : List Profile) (f : FieldSet) : Type 0 where
+  pub column : Allows (profileOf e (f .numbers .id)) f
   pub bytes : OfBytes f
 
 -- ---- the writer's rows
 
 -- the numbers: each in its range, then m at least 8p
-abbrev pub rangeRows : Limits → Fields → List Row
-rangeRows l n =
-    row 11 (not (inRange (l .m) (n .m)))
-    ∷ row 11 (not (inRange (l .t) (n .t)))
-    ∷ row 11 (not (inRange (l .p) (n .p)))
+abbrev pub rangeRows : Profile → Fields → List Row
+rangeRows r n =
+    row 11 (not (inRange (r .m) (n .m)))
+    ∷ row 11 (not (inRange (r .t) (n .t)))
+    ∷ row 11 (not (inRange (r .p) (n .p)))
     ∷ row 11 (ltb (n .m) (8 * n .p))
     ∷ []
 
-abbrev pub saltRows : Limits → List ℕ → List ℕ → List Row
-saltRows l salt output =
-    row 14 (not (bytesAllowed (l .salt) salt))
-    ∷ row 15 (not (bytesAllowed (l .output) output))
+abbrev pub saltRows : Profile → List ℕ → List ℕ → List Row
+saltRows r salt output =
+    row 14 (not (bytesAllowed (r .salt) salt))
+    ∷ row 15 (not (bytesAllowed (r .output) output))
     ∷ row 16 (empty salt && not (empty output))
     ∷ []
 
 -- keyid and data, then salt and output
-abbrev pub bytesRows : Limits → List ℕ → List ℕ → List ℕ → List ℕ → List Row
-bytesRows l keyid ad salt output =
-    row 12 (not (bytesAllowed (l .keyid) keyid))
-    ∷ row 12 (not (bytesAllowed (l .ad) ad))
-    ∷ saltRows l salt output
+abbrev pub bytesRows : Profile → List ℕ → List ℕ → List ℕ → List ℕ → List Row
+bytesRows r keyid ad salt output =
+    row 12 (not (bytesAllowed (r .keyid) keyid))
+    ∷ row 12 (not (bytesAllowed (r .ad) ad))
+    ∷ saltRows r salt output
+
+-- for the column r of the id
+abbrev pub columnRows : Profile → FieldSet → List Row
+columnRows r f =
+    row 8 (not (r .known))
+    ∷ row 9 (not (versionAllowed (r .versions) (f .numbers .version)))
+    ∷ (rangeRows r (f .numbers)
+    ++ bytesRows r (f .keyid) (f .ad) (f .salt) (f .output))
 
 abbrev pub writerRows : List Profile → FieldSet → List Row
-writerRows e f =
-    let r = profileOf e (f .numbers .id) in
-    row 8 (not (r .known))
-    ∷ row 9 (not (versionAllowed r (f .numbers .version)))
-    ∷ (rangeRows (limitsOf r) (f .numbers)
-    ++ bytesRows (limitsOf r) (f .keyid) (f .ad) (f .salt) (f .output))
+writerRows e f = columnRows (profileOf e (f .numbers .id)) f
 
 -- the writer's number, before it looks at the room
 unfoldable pub refusal : List Profile → FieldSet → ℕ
@@ -128,7 +134,7 @@ shortFields e k salt output =
 abbrev pub shortRows : List Profile → ℕ → List ℕ → List ℕ → List Row
 shortRows e k salt output =
     let r = profileOf e k in
-    row 8 (not (r .known)) ∷ saltRows (limitsOf r) salt output
+    row 8 (not (r .known)) ∷ saltRows r salt output
 
 unfoldable pub shortRefusal : List Profile → ℕ → List ℕ → List ℕ → ℕ
 shortRefusal e k salt output = firstOf (shortRows e k salt output)

@@ -1,26 +1,31 @@
 // Ids by their names.
+use crate::names::NAME_COUNT;
+use crate::names::NAMES;
+use crate::names::name_at;
 use text::scan::same_text;
 ghost use mathlib.Core.Path.{_≡_};
 ghost use Rattle.profile.specs.Limits.{idOf, editionTwo};
+ghost use Rattle.profile.specs.Columns.{nameTable};
+
+// The index of a name in the table, 0 for a text that is none of them.
+fn position(names: &[u8], name: &[u8]) -> u8
+    requires { ⌜ now names ≡ nameTable ⌝ }
+    ensures { λ r. ⌜ r ≡ idOf editionTwo (now (name .entry)) ⌝ }
+{
+    let mut index = 1;
+    while index < NAME_COUNT {
+        if same_text(name, name_at(names, index)) {
+            return index as u8;
+        }
+        index += 1;
+    }
+    0
+}
 
 // The number of an id, counted from 1; 0 for an unknown one.
 pub fn id_number(name: &[u8]) -> u8
     ensures { λ r. ⌜ r ≡ idOf editionTwo (now (name .entry)) ⌝ }
 {
-    if same_text(name, b"argon2d") {
-        return 1;
-    }
-    if same_text(name, b"argon2i") {
-        return 2;
-    }
-    if same_text(name, b"argon2id") {
-        return 3;
-    }
-    if same_text(name, b"pbkdf2s2") {
-        return 4;
-    }
-    if same_text(name, b"pbkdf2s3") {
-        return 5;
-    }
-    0
+    let names = &NAMES;
+    position(names, name)
 }

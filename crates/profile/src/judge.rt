@@ -1,11 +1,10 @@
-// Rows 8 to 15, over the id's number, the version, the values of the names, the salt and the output.
+// Rows 8 to 15, over the id's column, the version, the values of the names, the salt and the output.
+use crate::bounds::version_allowed;
 use crate::bytes_field::bad_bytes;
 use crate::bytes_field::bad_size;
 use crate::bytes_field::misplaced_bytes;
 use crate::fields::Version;
-use crate::limits::Limits;
-use crate::limits::limits_of;
-use crate::limits::version_allowed;
+use crate::limits::Column;
 use crate::number_field::misplaced_number;
 use crate::number_field::read_number;
 use crate::number_field::written_out;
@@ -13,10 +12,9 @@ use crate::values::Values;
 use grammar::places::Span;
 ghost use Prim.Native.Nat.{ℕ};
 ghost use mathlib.Core.Path.{_≡_};
-ghost use mathlib.Core.Bool.{false};
 ghost use mathlib.Core.List.{List};
 ghost use Rattle.text.specs.Rows.{firstOf};
-ghost use Rattle.profile.specs.Limits.{profileOf, limitsOf, editionTwo};
+ghost use Rattle.profile.specs.Columns.{profileIn};
 ghost use Rattle.profile.specs.Reader.{misplaced, numberRows, spellingRows, rowsFor};
 ghost use Rattle.profile.specs.ReaderSteps.{slotIn, slotsIn, NumbersAre, Judged};
 
@@ -29,30 +27,30 @@ pub struct Judgement {
 }
 
 // Names missing or unknown to the profile.
-fn is_misplaced(limits: Limits, values: Values) -> bool
-    ensures { λ r. ⌜ ((t : List ℕ) → r ≡ misplaced limits (slotsIn t values)) ⌝ }
+fn is_misplaced(column: Column, values: Values) -> bool
+    ensures { λ r. ⌜ ((t : List ℕ) → r ≡ misplaced (profileIn column) (slotsIn t values)) ⌝ }
 {
-    let m = limits.m;
+    let m = column.m;
     let m_span = values.m;
     if misplaced_number(m, m_span) {
         return true;
     }
-    let t = limits.t;
+    let t = column.t;
     let t_span = values.t;
     if misplaced_number(t, t_span) {
         return true;
     }
-    let p = limits.p;
+    let p = column.p;
     let p_span = values.p;
     if misplaced_number(p, p_span) {
         return true;
     }
-    let keyid = limits.keyid;
+    let keyid = column.keyid;
     let keyid_span = values.keyid;
     if misplaced_bytes(keyid, keyid_span) {
         return true;
     }
-    let ad = limits.ad;
+    let ad = column.ad;
     let ad_span = values.ad;
     misplaced_bytes(ad, ad_span)
 }
@@ -68,24 +66,23 @@ fn refused(number: u8) -> Judgement
     }
 }
 
-// m, t and p, none of them misplaced: row 11. m < 8p is tested without a product that can wrap.
-fn read_numbers(limits: Limits, params: &[u8], values: Values) -> Judgement
-    requires { ⌜ misplaced limits (slotsIn (now params) values) ≡ false ⌝ }
-    ensures { λ r. ⌜ Judged (numberRows limits (slotsIn (now (params .entry)) values)) limits (slotsIn (now (params .entry)) values) r ⌝ }
+// m, t and p: row 11. m < 8p is tested without a product that can wrap.
+fn read_numbers(column: Column, params: &[u8], values: Values) -> Judgement
+    ensures { λ r. ⌜ Judged (numberRows (profileIn column) (slotsIn (now (params .entry)) values)) (profileIn column) (slotsIn (now (params .entry)) values) r ⌝ }
 {
-    let m_rule = limits.m;
+    let m_rule = column.m;
     let m_span = values.m;
     let m = read_number(m_rule, params, m_span);
     if m.number != 0 {
         return refused(m.number);
     }
-    let t_rule = limits.t;
+    let t_rule = column.t;
     let t_span = values.t;
     let t = read_number(t_rule, params, t_span);
     if t.number != 0 {
         return refused(t.number);
     }
-    let p_rule = limits.p;
+    let p_rule = column.p;
     let p_span = values.p;
     let p = read_number(p_rule, params, p_span);
     if p.number != 0 {
@@ -103,31 +100,31 @@ fn read_numbers(limits: Limits, params: &[u8], values: Values) -> Judgement
 }
 
 // Rows 12 and 13.
-fn bytes_and_spelling(limits: Limits, params: &[u8], values: Values, n: Judgement) -> u8
-    requires { ⌜ NumbersAre limits (slotsIn (now params) values) (n .m) (n .t) (n .p) ⌝ }
-    ensures { λ r. ⌜ r ≡ firstOf (spellingRows limits (slotsIn (now (params .entry)) values)) ⌝ }
+fn bytes_and_spelling(column: Column, params: &[u8], values: Values, n: Judgement) -> u8
+    requires { ⌜ NumbersAre (profileIn column) (slotsIn (now params) values) (n .m) (n .t) (n .p) ⌝ }
+    ensures { λ r. ⌜ r ≡ firstOf (spellingRows (profileIn column) (slotsIn (now (params .entry)) values)) ⌝ }
 {
-    let keyid = limits.keyid;
+    let keyid = column.keyid;
     let keyid_span = values.keyid;
     if bad_bytes(keyid, params, keyid_span) {
         return 12;
     }
-    let ad = limits.ad;
+    let ad = column.ad;
     let ad_span = values.ad;
     if bad_bytes(ad, params, ad_span) {
         return 12;
     }
-    let m = limits.m;
+    let m = column.m;
     let m_span = values.m;
     if written_out(m, m_span, n.m) {
         return 13;
     }
-    let t = limits.t;
+    let t = column.t;
     let t_span = values.t;
     if written_out(t, t_span, n.t) {
         return 13;
     }
-    let p = limits.p;
+    let p = column.p;
     let p_span = values.p;
     if written_out(p, p_span, n.p) {
         return 13;
@@ -137,7 +134,7 @@ fn bytes_and_spelling(limits: Limits, params: &[u8], values: Values, n: Judgemen
 
 // Rows 8 to 15: the first that applies.
 pub fn judge(
-    id: u8,
+    column: Column,
     version: Version,
     params: &[u8],
     values: Values,
@@ -145,34 +142,34 @@ pub fn judge(
     salt: Span,
     output: Span,
 ) -> Judgement
-    ensures { λ r. ⌜ Judged (rowsFor editionTwo id version (slotsIn (now (params .entry)) values) (values .strange) (slotIn (now (s .entry)) salt) (slotIn (now (s .entry)) output)) (limitsOf (profileOf editionTwo id)) (slotsIn (now (params .entry)) values) r ⌝ }
+    ensures { λ r. ⌜ Judged (rowsFor (profileIn column) version (slotsIn (now (params .entry)) values) (values .strange) (slotIn (now (s .entry)) salt) (slotIn (now (s .entry)) output)) (profileIn column) (slotsIn (now (params .entry)) values) r ⌝ }
 {
-    if id == 0 {
+    if !column.known {
         return refused(8);
     }
-    if !version_allowed(id, version) {
+    let versions = column.versions;
+    if !version_allowed(versions, version) {
         return refused(9);
     }
-    let limits = limits_of(id);
     if values.strange {
         return refused(10);
     }
-    if is_misplaced(limits, values) {
+    if is_misplaced(column, values) {
         return refused(10);
     }
-    let n = read_numbers(limits, params, values);
+    let n = read_numbers(column, params, values);
     if n.number != 0 {
         return n;
     }
-    let number = bytes_and_spelling(limits, params, values, n);
+    let number = bytes_and_spelling(column, params, values, n);
     if number != 0 {
         return refused(number);
     }
-    let salt_rule = limits.salt;
+    let salt_rule = column.salt;
     if bad_bytes(salt_rule, s, salt) {
         return refused(14);
     }
-    let output_rule = limits.output;
+    let output_rule = column.output;
     if bad_size(output_rule, s, output) {
         return refused(15);
     }

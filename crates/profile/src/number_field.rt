@@ -1,5 +1,7 @@
 // One number parameter: its rule over the span of its value, and its text.
 use crate::limits::NumberRule;
+use crate::omitted::given_of;
+use crate::omitted::left_out;
 use crate::ranges::highest_of;
 use crate::ranges::lowest_of;
 use crate::tagged::decimal_len;
@@ -10,13 +12,11 @@ use grammar::places::Span;
 use grammar::places::part;
 ghost use Prim.Native.Nat.{ℕ, _≤_};
 ghost use mathlib.Core.Path.{_≡_};
-ghost use mathlib.Core.Bool.{false, cond};
-ghost use mathlib.Core.Option.{none, some};
+ghost use mathlib.Core.Option.{some};
 ghost use mathlib.Core.List.{List};
 ghost use lib.ListN.{length};
 ghost use Rattle.text.specs.Rows.{firstOf};
 ghost use Rattle.text.specs.Place.{Wrote};
-ghost use Rattle.decimal.specs.Decimal.{digits};
 ghost use Rattle.decimal.specs.Numerals.{limitedValue};
 ghost use Rattle.profile.specs.Limits.{room};
 ghost use Rattle.profile.specs.Fields.{numberReading, misplacedNumber, readNumber, writtenOut, writeNumber};
@@ -45,21 +45,6 @@ pub fn misplaced_number(rule: NumberRule, span: Span) -> bool
     }
 }
 
-// The number that stands for one that is left out.
-fn given_of(rule: NumberRule) -> u32
-    ensures { λ r. ⌜ r ≡ readNumber rule none ⌝ }
-{
-    match rule {
-        NumberRule::Needed { low: _, high: _ } => 0,
-        NumberRule::Omitted {
-            low: _,
-            high: _,
-            given,
-        } => given,
-        NumberRule::Fixed { given } => given,
-    }
-}
-
 // The text of a value, read by its rule.
 fn written(rule: NumberRule, text: &[u8]) -> Number
     ensures { λ r. ⌜ (r .number ≡ firstOf (numberRow rule (some (now (text .entry))))) × (r .value ≡ limitedValue (numberReading rule (now (text .entry)))) ⌝ }
@@ -80,9 +65,8 @@ fn written(rule: NumberRule, text: &[u8]) -> Number
     }
 }
 
-// A number parameter that is not misplaced.
+// A number parameter: as written or, where it is left out, what its rule gives.
 pub fn read_number(rule: NumberRule, t: &[u8], span: Span) -> Number
-    requires { ⌜ misplacedNumber rule (slotIn (now t) span) ≡ false ⌝ }
     ensures { λ r. ⌜ (r .number ≡ firstOf (numberRow rule (slotIn (now (t .entry)) span))) × (r .value ≡ readNumber rule (slotIn (now (t .entry)) span)) ⌝ }
 {
     if span.at == 0 {
@@ -94,39 +78,14 @@ pub fn read_number(rule: NumberRule, t: &[u8], span: Span) -> Number
     written(rule, part(t, span))
 }
 
-// Written out, though it is what an omitted one means.
+// Written out, though it is to be left out.
 pub fn written_out(rule: NumberRule, span: Span, value: u32) -> bool
     ensures { λ r. ⌜ ((t : List ℕ) → value ≡ readNumber rule (slotIn t span) → r ≡ writtenOut rule (slotIn t span)) ⌝ }
 {
-    match rule {
-        NumberRule::Needed { low: _, high: _ } => false,
-        NumberRule::Omitted {
-            low: _,
-            high: _,
-            given,
-        } => {
-            if span.at == 0 {
-                return false;
-            }
-            value == given
-        }
-        NumberRule::Fixed { given: _ } => false,
+    if span.at == 0 {
+        return false;
     }
-}
-
-// Whether a number is left out of the string.
-fn is_left_out(rule: NumberRule, n: u32) -> bool
-    ensures { λ r. ⌜ writeNumber rule n ≡ cond r none (some (digits n)) ⌝ }
-{
-    match rule {
-        NumberRule::Needed { low: _, high: _ } => false,
-        NumberRule::Omitted {
-            low: _,
-            high: _,
-            given,
-        } => n == given,
-        NumberRule::Fixed { given: _ } => true,
-    }
+    left_out(rule, value)
 }
 
 // The length of a number after a tag of so many bytes; nothing where it is left out.
@@ -134,7 +93,7 @@ pub fn number_len(tag: usize, rule: NumberRule, n: u32) -> usize
     requires { ⌜ tag ≤ room ⌝ }
     ensures { λ r. ⌜ r ≡ taggedLength tag (writeNumber rule n) ⌝ }
 {
-    if is_left_out(rule, n) {
+    if left_out(rule, n) {
         return 0;
     }
     decimal_len(tag, n)
@@ -145,7 +104,7 @@ pub fn put_number(tag: &[u8], rule: NumberRule, n: u32, out: &mut [u8]) -> usize
     requires { ⌜ length (tagged (now tag) (writeNumber rule n)) ≤ length (now out) ⌝ }
     ensures { λ r. ⌜ Wrote (tagged (now (tag .entry)) (writeNumber rule n)) (now (out .entry)) (now (out .exit)) r ⌝ }
 {
-    if is_left_out(rule, n) {
+    if left_out(rule, n) {
         return 0;
     }
     put_decimal(tag, n, out)

@@ -1,4 +1,5 @@
 // The profile reader: kind and number fields of a string, or the number of the row that refuses it; and the byte-string entry.
+use crate::columns::column_of;
 use crate::fields::ByteString;
 use crate::fields::Fields;
 use crate::fields::Meaning;
@@ -28,13 +29,10 @@ ghost use Rattle.grammar.specs.Pieces.{pieces};
 ghost use Rattle.grammar.specs.Items.{items};
 ghost use Rattle.grammar.specs.Rules.{isItem, grammarNumber};
 ghost use Rattle.grammar.specs.Layout.{placesOf};
-ghost use Rattle.profile.specs.Limits.{profileOf, editionTwo};
+ghost use Rattle.profile.specs.Limits.{editionTwo};
 ghost use Rattle.profile.specs.Fields.{readVersion};
 ghost use Rattle.profile.specs.Entries.{refusedReading, kindOf, meantVersion, reading, meaning, decoded};
 ghost use Rattle.profile.specs.ReaderSteps.{slotIn, ValuesAre, chosenText, WholeIs};
-
-// The algorithm version that an Argon2 string without a version means.
-const ABSENT_MEANS: u32 = 19;
 
 // All that one reading of a string finds: the answer, the places of its pieces, and where the values of the names stand in the parameter
 // piece.
@@ -91,20 +89,12 @@ fn kind_of(salt: Span, output: Span) -> u8
     1
 }
 
-// The version that a version field means in a profile.
-fn meant_version(id: u8, version: Version) -> u32
-    ensures { λ r. ⌜ r ≡ meantVersion (profileOf editionTwo id) version ⌝ }
+// The version that a version field means, where an absent one means `unwritten`.
+fn meant_version(unwritten: u32, version: Version) -> u32
+    ensures { λ r. ⌜ r ≡ meantVersion unwritten version ⌝ }
 {
     match version {
-        Version::Absent => {
-            if id < 1 {
-                return 0;
-            }
-            if 3 < id {
-                return 0;
-            }
-            ABSENT_MEANS
-        }
+        Version::Absent => unwritten,
         Version::Number(n) => n,
     }
 }
@@ -134,7 +124,7 @@ fn read_pieces(s: &[u8], places: Places) -> Whole
     let version = version_in(s, version_span);
     let params = part(s, params_span);
     let values = values_at(params, params_span.at != 0);
-    let j = judge(id, version, params, values, s, salt, output);
+    let j = judge(column_of(id), version, params, values, s, salt, output);
     if j.number != 0 {
         return Whole {
             reading: refused(j.number),
@@ -192,9 +182,10 @@ pub fn algorithm_version(s: &[u8]) -> Meaning
     let number = r.number;
     let fields = r.fields;
     let version = fields.version;
+    let column = column_of(fields.id);
     Meaning {
         number,
-        version: meant_version(fields.id, version),
+        version: meant_version(column.unwritten, version),
     }
 }
 

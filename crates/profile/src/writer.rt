@@ -1,7 +1,6 @@
 // The writer: the one string of permitted fields, into a lent buffer from a place on; and the short writer, which takes the usual costs.
+use crate::columns::column_of;
 use crate::fields::Fields;
-use crate::fields::Version;
-use crate::limits::limits_of;
 use crate::writer_rows::refusal_of;
 use crate::writer_text::put_string;
 use crate::writer_text::string_len;
@@ -28,22 +27,22 @@ pub fn write(
 ) -> Written
     ensures { λ r. ⌜ outcome (r .number) (r .count .0) (now (buf .exit)) ≡ writing editionTwo (fieldSet n (now (keyid .entry)) (now («data» .entry)) (now (salt .entry)) (now (output .entry))) (now (buf .entry)) at ⌝ }
 {
-    let number = refusal_of(n, keyid, data, salt, output);
+    let column = column_of(n.id);
+    let number = refusal_of(column, n, keyid, data, salt, output);
     if number != 0 {
         return Written {
             number,
             count: Chars(0),
         };
     }
-    let limits = limits_of(n.id);
-    let count = string_len(limits, n, keyid, data, salt, output);
+    let count = string_len(column, n, keyid, data, salt, output);
     if !has_room(buf.len(), at, count) {
         return Written {
             number: 17,
             count: Chars(0),
         };
     }
-    put_string(limits, n, keyid, data, salt, output, &mut buf[at..]);
+    put_string(column, n, keyid, data, salt, output, &mut buf[at..]);
     Written {
         number: 0,
         count: Chars(count),
@@ -54,28 +53,15 @@ pub fn write(
 fn usual_fields(id: u8) -> Fields
     ensures { λ r. ⌜ r ≡ shortFields editionTwo id [] [] .numbers ⌝ }
 {
-    match id {
-        1..=3 => Fields {
-            id,
-            version: Version::Number(19),
-            m: 65536,
-            t: 2,
-            p: 1,
-        },
-        4..=5 => Fields {
-            id,
-            version: Version::Absent,
-            m: 0,
-            t: 20000,
-            p: 0,
-        },
-        _ => Fields {
-            id,
-            version: Version::Absent,
-            m: 0,
-            t: 0,
-            p: 0,
-        },
+    let column = column_of(id);
+    let usual = column.usual;
+    let version = usual.version;
+    Fields {
+        id,
+        version,
+        m: usual.m,
+        t: usual.t,
+        p: usual.p,
     }
 }
 

@@ -1,36 +1,28 @@
 // The writer's rows 8 to 16 over the fields.
 use crate::bounds::in_range;
+use crate::bounds::version_allowed;
 use crate::bytes_field::bytes_allowed;
 use crate::fields::Fields;
-use crate::limits::Limits;
-use crate::limits::limits_of;
-use crate::limits::version_allowed;
+use crate::limits::Column;
 ghost use mathlib.Core.Path.{_≡_};
 ghost use Rattle.text.specs.Rows.{firstOf};
-ghost use Rattle.profile.specs.Limits.{profileOf, editionTwo};
+ghost use Rattle.profile.specs.Columns.{profileIn};
 ghost use Rattle.profile.specs.Fields.{fieldSet};
-ghost use Rattle.profile.specs.Writer.{rangeRows, bytesRows, refusal};
-
-// Ids are 1 to 5.
-fn is_known(id: u8) -> bool
-    ensures { λ r. ⌜ r ≡ profileOf editionTwo id .known ⌝ }
-{
-    1 <= id && id <= 5
-}
+ghost use Rattle.profile.specs.Writer.{rangeRows, bytesRows, columnRows};
 
 // Row 11: each number in its range, then m at least 8p, tested without a product that can wrap.
-fn bad_numbers(limits: Limits, n: Fields) -> u8
-    ensures { λ r. ⌜ r ≡ firstOf (rangeRows limits n) ⌝ }
+fn bad_numbers(column: Column, n: Fields) -> u8
+    ensures { λ r. ⌜ r ≡ firstOf (rangeRows (profileIn column) n) ⌝ }
 {
-    let m = limits.m;
+    let m = column.m;
     if !in_range(m, n.m) {
         return 11;
     }
-    let t = limits.t;
+    let t = column.t;
     if !in_range(t, n.t) {
         return 11;
     }
-    let p = limits.p;
+    let p = column.p;
     if !in_range(p, n.p) {
         return 11;
     }
@@ -41,22 +33,22 @@ fn bad_numbers(limits: Limits, n: Fields) -> u8
 }
 
 // Rows 12 to 16: keyid, data, salt, output, then no output without a salt.
-fn bad_byte_strings(limits: Limits, keyid: &[u8], ad: &[u8], salt: &[u8], output: &[u8]) -> u8
-    ensures { λ r. ⌜ r ≡ firstOf (bytesRows limits (now (keyid .entry)) (now (ad .entry)) (now (salt .entry)) (now (output .entry))) ⌝ }
+fn bad_byte_strings(column: Column, keyid: &[u8], ad: &[u8], salt: &[u8], output: &[u8]) -> u8
+    ensures { λ r. ⌜ r ≡ firstOf (bytesRows (profileIn column) (now (keyid .entry)) (now (ad .entry)) (now (salt .entry)) (now (output .entry))) ⌝ }
 {
-    let keyid_rule = limits.keyid;
+    let keyid_rule = column.keyid;
     if !bytes_allowed(keyid_rule, keyid) {
         return 12;
     }
-    let ad_rule = limits.ad;
+    let ad_rule = column.ad;
     if !bytes_allowed(ad_rule, ad) {
         return 12;
     }
-    let salt_rule = limits.salt;
+    let salt_rule = column.salt;
     if !bytes_allowed(salt_rule, salt) {
         return 14;
     }
-    let output_rule = limits.output;
+    let output_rule = column.output;
     if !bytes_allowed(output_rule, output) {
         return 15;
     }
@@ -70,20 +62,27 @@ fn bad_byte_strings(limits: Limits, keyid: &[u8], ad: &[u8], salt: &[u8], output
 }
 
 // The first row that applies, 0 where none does.
-pub fn refusal_of(n: Fields, keyid: &[u8], ad: &[u8], salt: &[u8], output: &[u8]) -> u8
-    ensures { λ r. ⌜ r ≡ refusal editionTwo (fieldSet n (now (keyid .entry)) (now (ad .entry)) (now (salt .entry)) (now (output .entry))) ⌝ }
+pub fn refusal_of(
+    column: Column,
+    n: Fields,
+    keyid: &[u8],
+    ad: &[u8],
+    salt: &[u8],
+    output: &[u8],
+) -> u8
+    ensures { λ r. ⌜ r ≡ firstOf (columnRows (profileIn column) (fieldSet n (now (keyid .entry)) (now (ad .entry)) (now (salt .entry)) (now (output .entry)))) ⌝ }
 {
-    if !is_known(n.id) {
+    if !column.known {
         return 8;
     }
+    let versions = column.versions;
     let version = n.version;
-    if !version_allowed(n.id, version) {
+    if !version_allowed(versions, version) {
         return 9;
     }
-    let limits = limits_of(n.id);
-    let number = bad_numbers(limits, n);
+    let number = bad_numbers(column, n);
     if number != 0 {
         return number;
     }
-    bad_byte_strings(limits, keyid, ad, salt, output)
+    bad_byte_strings(column, keyid, ad, salt, output)
 }

@@ -1,14 +1,14 @@
 -- A rule of a table, proved at all of its entries by one test that antt computes, one entry after the other.
 -- Assumes nothing.
-use mathlib.Core.Path.{_≡_, _∙_, subst, sym}
-use mathlib.Core.Bool.{Bool, true}
+use mathlib.Core.Path.{_≡_, refl, sym, _∙_, ap, subst}
+use mathlib.Core.Bool.{Bool, true, false}
 use mathlib.Core.List.{List, [], _∷_}
-use Prim.Native.Nat.{ℕ, zero, suc, _+_, _<_}
+use Prim.Native.Nat.{ℕ, zero, suc, _+_, _≤_, _<_}
 use native.Mathlib.Nat.{add-zero, zero-add, add-suc, suc-add, le-of-suc-le-suc, not-suc-le-zero}
-use lib.Dec.{eqb}
-use lib.ListN.{length, getD}
-use borrow.Author.Tests.{eqb-true}
-use Rattle.text.specs.Text.{every}
+use lib.Dec.{eqb, ltb}
+use lib.ListN.{length, drop, getD}
+use borrow.Author.Tests.{eqb-true, ltb-true, ltb-false}
+use Rattle.text.specs.Text.{all, every}
 use Rattle.text.proofs.Tests.{both}
 
 -- what every element passes, the one at a place does
@@ -29,3 +29,44 @@ holds f k x = eqb x (f k)
 
 pub table-rule : (f : ℕ → ℕ) (xs : List ℕ) → every (holds f) 0 xs ≡ true → (k : ℕ) → k < length xs → getD xs k 0 ≡ f k
 table-rule f xs t k h = eqb-true (getD xs k 0) (f k) (at (holds f) xs t k h)
+
+-- what each element and the one past the last pass, the one at any place does
+pub always : {A : Type 0} (f : A → Bool) (d : A) (xs : List A) → f d ≡ true → all f xs ≡ true → (k : ℕ) → f (getD xs k d) ≡ true
+always f d [] h t k = h
+always f d (x ∷ xs) h t zero = both (f x) (all f xs) t .0
+always f d (x ∷ xs) h t (suc k) = always f d xs h (both (f x) (all f xs) t .1) k
+
+-- the element at a place, and those after it
+pub drop-at : {A : Type 0} (d : A) (xs : List A) (k : ℕ) → k < length xs → drop k xs ≡ getD xs k d ∷ drop (suc k) xs
+drop-at d [] k h = absurd (not-suc-le-zero h)
+drop-at d (x ∷ xs) zero h = refl
+drop-at d (x ∷ xs) (suc k) h = drop-at d xs k (le-of-suc-le-suc h)
+
+-- ---- a table as a function makes it
+
+-- f k, f (k + 1), .. , n of them
+abbrev pub tabulate : {A : Type 0} → (ℕ → A) → ℕ → ℕ → List A
+tabulate f k zero = []
+tabulate f k (suc n) = f k ∷ tabulate f (suc k) n
+
+module _ {A : Type 0} (f : ℕ → A) (d : A) where
+  at-tabulate : (n k i : ℕ) → i < n → getD (tabulate f k n) i d ≡ f (k + i)
+  at-tabulate zero k i h = absurd (not-suc-le-zero h)
+  at-tabulate (suc n) k zero h = ap f (sym (add-zero k))
+  at-tabulate (suc n) k (suc i) h = at-tabulate n (suc k) i (le-of-suc-le-suc h) ∙ ap f (suc-add k i ∙ sym (add-suc k i))
+
+  past-tabulate : (n k i : ℕ) → n ≤ i → getD (tabulate f k n) i d ≡ d
+  past-tabulate zero k i h = refl
+  past-tabulate (suc n) k zero h = absurd (not-suc-le-zero h)
+  past-tabulate (suc n) k (suc i) h = past-tabulate n (suc k) i (le-of-suc-le-suc h)
+
+  -- a function whose first n values are a table, and d after them, is the table
+  pub tabulated : (n : ℕ) (xs : List A) → tabulate f 0 n ≡ xs → ((k : ℕ) → n ≤ k → f k ≡ d) → (k : ℕ) → f k ≡ getD xs k d
+  tabulated n xs e past k = go (ltb k n) refl
+    where
+      here : getD (tabulate f 0 n) k d ≡ getD xs k d
+      here = ap (λ (l : List A). getD l k d) e
+
+      go : (b : Bool) → ltb k n ≡ b → f k ≡ getD xs k d
+      go true q = ap f (sym (zero-add k)) ∙ sym (at-tabulate n 0 k (ltb-true k n q)) ∙ here
+      go false q = past k (ltb-false k n q) ∙ sym (past-tabulate n 0 k (ltb-false k n q)) ∙ here

@@ -1,13 +1,15 @@
 -- `fast_path::walk::after_id` meets its contract. Assumes nothing.
-use native.Mathlib.Omega.{arith}
 use borrow.Author.Needs.{needs}
-use Rattle.fast_path.proofs.Chains.{after-none, after-some}
-use Rattle.fast_path.proofs.StringLaws.{roomy-two}
+use lib.ListN.{drop}
+use Rattle.profile.specs.Columns.{profileIn}
+use Rattle.fast_path.proofs.Chains.{after-unknown, after-none, after-some}
 use Rattle.fast_path.proofs.walk.after_id.Statement.{statement}
 use Rattle.fast_path.proofs.walk.after_id.Tie as tie
 
 returns : tie.Need-returns
-returns c = rw (c .if1 .taken)
+returns c =
+    let a = c .before .before .before .before .args in
+    after-unknown (profileIn (a .column)) (a .id) (drop (a .at) (a .s .now)) (c .if1 .taken)
 
 enum-told : tie.Need-enum-told
 enum-told c = search needs
@@ -18,12 +20,13 @@ with-strings-requires c κs =
     let h = k .before .before in
     let st = h .before .before .before .before .before in
     let q = rw (k .fields .given .1) at (h .head-at .ensures) in
-    ((q .1, rw (h .before .limits-of .ensures) (omega (arith, roomy-two (st .args .id), st .pre .0 .1))), st .pre .1)
+    ((q .1, st .pre .0 .1), st .pre .1)
 
 returns-2 : tie.Need-returns-2
 returns-2 c =
     let h = c .before .before in
-    after-none _ _ (h .before .before .if1 .left) _ (rw (c .enum-told .given .1) at (h .head-at .ensures))
+    let a = h .before .before .before .before .before .args in
+    after-none (profileIn (a .column)) (a .id) (drop (a .at) (a .s .now)) (h .before .if1 .left) (rw (c .enum-told .given .1) at (h .head-at .ensures))
 
 returns-3 : tie.Need-returns-3
 returns-3 c =
@@ -31,14 +34,14 @@ returns-3 c =
     let k = w .before .before .before in
     let h = k .before .before in
     let q = rw (k .fields .given .1) at (h .head-at .ensures) in
-    rw (after-some _ _ (h .before .before .if1 .left) _ _ (h .before .limits-of .ensures) _ (q .0)) (w .with-strings .ensures)
+    let a = h .before .before .before .before .before .args in
+    rw (after-some (profileIn (a .column)) (a .id) (drop (a .at) (a .s .now)) (h .before .if1 .left) _ (q .0)) (w .with-strings .ensures)
 
 pub after-id-spec : {M : Type 1} → statement M
 after-id-spec =
     tie.close
     (tie.spec
     returns
-    (λ c κs. search needs)
     (λ c κs. search needs)
     enum-told
     (λ c. search needs)

@@ -1,6 +1,7 @@
 -- `fast_path::walk::with_strings` meets its contract. Assumes nothing.
 use native.Mathlib.Omega.{arith}
 use borrow.Author.Needs.{needs}
+use Rattle.profile.specs.Columns.{profileIn}
 use Rattle.fast_path.proofs.StringLaws.{stored-two-size, no-keys, no-hashes, ordered, text-left, all-strings}
 use Rattle.fast_path.proofs.walk.with_strings.Statement.{statement}
 use Rattle.fast_path.proofs.walk.with_strings.Tie as tie
@@ -26,7 +27,7 @@ contents-for-requires c κs =
     let a = k .before .before .before .before .before .before .args in
     let h = rw (n .next .given .1) at (k .two-items .ensures) in
     let y = rw (e .last .given .1) at (w .two-items2 .ensures) in
-    ordered (a .limits) (a .fields) (a .separator) (a .s .now) (a .at) (a .out .now) _ _ _ _ h _ _ _ _ y
+    ordered (profileIn (a .column)) (a .fields) (a .separator) (a .s .now) (a .at) (a .out .now) _ _ _ _ h _ _ _ _ y
 
 same-length : tie.Need-same-length
 same-length c =
@@ -45,13 +46,13 @@ returns c =
     let a = st .args in
     let h = rw (n .next .given .1) at (k .two-items .ensures) in
     let y = rw (e .last .given .1) at (w .two-items2 .ensures) in
-    all-strings (a .limits) (a .fields) (a .separator) (a .s .now) (a .at) (a .out .now) _ _ _ _ h _ _ _ _ y (st .pre .0 .1) (c .before .if1 .taken) _ (c .contents-for .ensures)
+    all-strings (profileIn (a .column)) (a .fields) (a .separator) (a .s .now) (a .at) (a .out .now) _ _ _ _ h _ _ _ _ y (st .pre .0 .1) (c .before .if1 .taken) _ (c .contents-for .ensures)
 
 returns-2 : tie.Need-returns-2
 returns-2 c =
     let k = c .before .before .before .before in
     let a = k .before .before .before .before .before .before .args in
-    no-keys (a .limits) (a .fields) (a .separator) (a .s .now) (a .at) (a .out .now) (rw (c .enum-told .given .1) at (k .two-items .ensures))
+    no-keys (profileIn (a .column)) (a .fields) (a .separator) (a .s .now) (a .at) (a .out .now) (rw (c .enum-told .given .1) at (k .two-items .ensures))
 
 returns-3 : tie.Need-returns-3
 returns-3 c =
@@ -60,7 +61,7 @@ returns-3 c =
     let k = n .before .before .before .before in
     let a = k .before .before .before .before .before .before .args in
     let h = rw (n .next .given .1) at (k .two-items .ensures) in
-    no-hashes (a .limits) (a .fields) (a .separator) (a .s .now) (a .at) (a .out .now) _ _ _ _ h (rw (c .enum-told2 .given .1) at (w .two-items2 .ensures))
+    no-hashes (profileIn (a .column)) (a .fields) (a .separator) (a .s .now) (a .at) (a .out .now) _ _ _ _ h (rw (c .enum-told2 .given .1) at (w .two-items2 .ensures))
 
 returns-4 : tie.Need-returns-4
 returns-4 c =
@@ -71,7 +72,7 @@ returns-4 c =
     let a = k .before .before .before .before .before .before .args in
     let h = rw (n .next .given .1) at (k .two-items .ensures) in
     let y = rw (e .last .given .1) at (w .two-items2 .ensures) in
-    text-left (a .limits) (a .fields) (a .separator) (a .s .now) (a .at) (a .out .now) _ _ _ _ h _ _ _ _ y (c .if1 .left)
+    text-left (profileIn (a .column)) (a .fields) (a .separator) (a .s .now) (a .at) (a .out .now) _ _ _ _ h _ _ _ _ y (c .if1 .left)
 
 pub with-strings-spec : {M : Type 1} → statement M
 with-strings-spec =

@@ -8,16 +8,17 @@ use denote.Ref.{now}
 use Rattle.text.specs.Text.{broken}
 use Rattle.text.specs.Rows.{row, firstOf}
 use Rattle.grammar.specs.Pieces.{Slot}
+use Rattle.profile.specs.Limits.{Profile}
+use Rattle.profile.specs.Columns.{profileIn}
 use Rattle.profile.specs.Fields.{isBytes, writtenOut}
 use Rattle.profile.specs.Reader.{slotAt, spellingRows}
 use Rattle.profile.specs.ReaderSteps.{slotsIn, NumbersAre}
-use Rattle.profile.specs.declared.limits.Limits.{Limits}
 use Rattle.profile.proofs.judge.bytes_and_spelling.Statement.{statement}
 use Rattle.profile.proofs.judge.bytes_and_spelling.Tie as tie
 
--- the limits, the values of the names, and the tests
-abbrev entry : tie.Start → Limits
-entry a = a .args .limits
+-- the column, the values of the names, and the tests
+abbrev entry : tie.Start → Profile
+entry a = profileIn (a .args .column)
 
 abbrev values : tie.Start → List Slot
 values a = slotsIn (now (a .args .params)) (a .args .values)

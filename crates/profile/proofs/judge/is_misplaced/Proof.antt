@@ -4,6 +4,7 @@ use borrow.Author.Needs.{needs}
 use mathlib.Core.Bool.{Bool, _||_}
 use mathlib.Core.List.{List}
 use mathlib.Core.Path.{_≡_, sym, _∙_}
+use Rattle.profile.specs.Columns.{profileIn}
 use Rattle.profile.specs.Fields.{misplacedNumber, misplacedBytes}
 use Rattle.profile.specs.Reader.{misplaced}
 use Rattle.profile.specs.ReaderSteps.{slotIn, slotsIn}
@@ -12,19 +13,19 @@ use Rattle.profile.proofs.judge.is_misplaced.Tie as tie
 
 -- the tests over a text: all, and each
 abbrev tests : tie.Start → List ℕ → Bool
-tests a u = misplaced (a .args .limits) (slotsIn u (a .args .values))
+tests a u = misplaced (profileIn (a .args .column)) (slotsIn u (a .args .values))
 
 abbrev t : tie.Start → List ℕ → Bool
-t a u = misplacedNumber (a .args .limits .t) (slotIn u (a .args .values .t))
+t a u = misplacedNumber (a .args .column .t) (slotIn u (a .args .values .t))
 
 abbrev p : tie.Start → List ℕ → Bool
-p a u = misplacedNumber (a .args .limits .p) (slotIn u (a .args .values .p))
+p a u = misplacedNumber (a .args .column .p) (slotIn u (a .args .values .p))
 
 abbrev keyid : tie.Start → List ℕ → Bool
-keyid a u = misplacedBytes (a .args .limits .keyid) (slotIn u (a .args .values .keyid))
+keyid a u = misplacedBytes (a .args .column .keyid) (slotIn u (a .args .values .keyid))
 
 abbrev ad : tie.Start → List ℕ → Bool
-ad a u = misplacedBytes (a .args .limits .ad) (slotIn u (a .args .values .ad))
+ad a u = misplacedBytes (a .args .column .ad) (slotIn u (a .args .values .ad))
 
 -- what is left of the tests past each
 abbrev rest-1 : tie.Start → List ℕ → Bool

@@ -1,9 +1,8 @@
 -- `profile::judge::judge` meets its contract. Assumes nothing.
 use Prim.Native.Nat.{ℕ}
 use borrow.Author.Needs.{needs}
-use borrow.Author.Tests.{eq-eqb, ne-eqb}
 use mathlib.Core.List.{List}
-use mathlib.Core.Path.{_≡_, refl, sym, _∙_, ap, subst}
+use mathlib.Core.Path.{_≡_, refl, sym, _∙_}
 use native.Mathlib.Omega.{arith}
 use lib.ListN.{drop}
 use denote.Ref.{now}
@@ -11,19 +10,19 @@ use Rattle.text.specs.Text.{broken}
 use Rattle.text.specs.Rows.{Row, firstOf}
 use Rattle.text.proofs.Rows.{rows-stop, rows-next}
 use Rattle.grammar.specs.Pieces.{Slot}
-use Rattle.profile.specs.Limits.{limitsOf, profileOf, editionTwo}
+use Rattle.profile.specs.Limits.{Profile}
+use Rattle.profile.specs.Columns.{profileIn}
 use Rattle.profile.specs.Fields.{isSized, isBytes}
 use Rattle.profile.specs.Reader.{misplaced, numberRows, spellingRows, rowsFor}
 use Rattle.profile.specs.ReaderSteps.{slotIn, slotsIn, NumbersAre, Judged}
 use Rattle.profile.specs.declared.judge.Judgement.{Judgement}
-use Rattle.profile.specs.declared.limits.Limits.{Limits}
-use Rattle.profile.proofs.JudgeLaws.{judged-refused, judged-accepted, judged-before}
+use Rattle.profile.proofs.JudgeLaws.{ten-strange, ten-missing, ten-clear, judged-refused, judged-accepted, judged-before}
 use Rattle.profile.proofs.judge.judge.Statement.{statement}
 use Rattle.profile.proofs.judge.judge.Tie as tie
 
--- the limits, the values of the names, the two last slots, and the rows
-abbrev entry : tie.Start → Limits
-entry a = limitsOf (profileOf editionTwo (a .args .id))
+-- the column, the values of the names, the two last slots, and the rows
+abbrev entry : tie.Start → Profile
+entry a = profileIn (a .args .column)
 
 abbrev values : tie.Start → List Slot
 values a = slotsIn (now (a .args .params)) (a .args .values)
@@ -35,7 +34,7 @@ abbrev output : tie.Start → Slot
 output a = slotIn (now (a .args .s)) (a .args .output)
 
 abbrev rows : tie.Start → List Row
-rows a = rowsFor editionTwo (a .args .id) (a .args .version) (values a) (a .args .values .strange) (salt a) (output a)
+rows a = rowsFor (entry a) (a .args .version) (values a) (a .args .values .strange) (salt a) (output a)
 
 abbrev numbers : tie.Start → List Row
 numbers a = numberRows (entry a) (values a)
@@ -48,13 +47,13 @@ refuse a j n e h z = judged-refused (rows a) (entry a) (values a) j n e h z
 
 -- where the function began, from a place past each test
 abbrev at-1 : tie.Else1 → tie.Start
-at-1 c = c .before .before .before
+at-1 c = c .before .before .before .before
 
 abbrev at-2 : tie.Else2 → tie.Start
 at-2 c = at-1 (c .before .before)
 
 abbrev at-3 : tie.Else3 → tie.Start
-at-3 c = at-2 (c .before .before)
+at-3 c = at-2 (c .before)
 
 abbrev at-4 : tie.Else4 → tie.Start
 at-4 c = at-3 (c .before .before)
@@ -71,64 +70,43 @@ at-7 c = at-6 (c .before .before)
 abbrev at-8 : tie.Else8 → tie.Start
 at-8 c = at-7 (c .before .before)
 
--- what each step was told, of the entry
-limits-are : (c : tie.After-limits-of) → c .limits-of .result ≡ entry (at-2 (c .before))
-limits-are c = c .limits-of .ensures
-
+-- what each step was told, of the column
 misplaced-is : (c : tie.After-is-misplaced) → c .is-misplaced .result ≡ misplaced (entry (at-3 (c .before))) (values (at-3 (c .before)))
-misplaced-is c =
-    let a = at-3 (c .before) in
-    c .is-misplaced .ensures (now (a .args .params)) ∙ ap (λ (l : Limits). misplaced l (values a)) (limits-are (c .before .before))
-
-numbers-are : (c : tie.After-read-numbers) → Judged (numbers (at-4 (c .before))) (entry (at-4 (c .before))) (values (at-4 (c .before))) (c .read-numbers .result)
-numbers-are c =
-    let a = at-4 (c .before) in
-    subst (λ (l : Limits). Judged (numberRows l (values a)) l (values a) (c .read-numbers .result)) (limits-are (c .before .before .before .before)) (c .read-numbers .ensures)
-
-spelling-is : (c : tie.After-bytes-and-spelling) → c .bytes-and-spelling .result ≡ firstOf (spelling (at-5 (c .before)))
-spelling-is c =
-    let a = at-5 (c .before) in
-    c .bytes-and-spelling .ensures ∙ ap (λ (l : Limits). firstOf (spellingRows l (values a))) (limits-are (c .before .before .before .before .before .before .before))
-
-salt-is : (c : tie.After-bad-bytes) → c .bad-bytes .result ≡ broken (isBytes (entry (at-6 (c .before)) .salt)) (salt (at-6 (c .before)))
-salt-is c = c .bad-bytes .ensures ∙ ap (λ (l : Limits). broken (isBytes (l .salt)) (salt (at-6 (c .before)))) (c .before .before .before .before .before .before .before .before .before .limits-of .ensures)
-
-output-is : (c : tie.After-bad-size) → c .bad-size .result ≡ broken (isSized (entry (at-7 (c .before)) .output)) (output (at-7 (c .before)))
-output-is c = c .bad-size .ensures ∙ ap (λ (l : Limits). broken (isSized (l .output)) (output (at-7 (c .before)))) (c .before .before .before .before .before .before .before .before .before .before .before .limits-of .ensures)
+misplaced-is c = c .is-misplaced .ensures (now (at-3 (c .before) .args .params))
 
 -- past each row that does not apply
 past-8 : (c : tie.Else1) → firstOf (rows (at-1 c)) ≡ firstOf (drop 1 (rows (at-1 c)))
-past-8 c = rw (ne-eqb (at-1 c .args .id) 0 (c .if1 .left))
+past-8 c = rw (c .if1 .left)
 
-past-9 : (c : tie.Else2) → firstOf (rows (c .before .before .before .before .before)) ≡ firstOf (drop 2 (rows (c .before .before .before .before .before)))
+past-9 : (c : tie.Else2) → firstOf (rows (at-2 c)) ≡ firstOf (drop 2 (rows (at-2 c)))
 past-9 c = past-8 (c .before .before) ∙ rw (← c .before .version-allowed .ensures, c .if2 .left)
 
-past-10 : (c : tie.Else4) → firstOf (rows (c .before .before .before .before .before .before .before .before .before)) ≡ firstOf (drop 3 (rows (c .before .before .before .before .before .before .before .before .before)))
-past-10 c = past-9 (c .before .before .before .before) ∙ rw (c .before .before .if3 .left, ← misplaced-is (c .before), c .if4 .left)
+past-10 : (c : tie.Else4) → firstOf (rows (at-4 c)) ≡ firstOf (drop 3 (rows (at-4 c)))
+past-10 c = past-9 (c .before .before .before) ∙ ten-clear (at-4 c .args .values .strange) (misplaced (entry (at-4 c)) (values (at-4 c))) (drop 3 (rows (at-4 c))) (c .before .before .if3 .left) (sym (misplaced-is (c .before)) ∙ c .if4 .left)
 
 past-11 : (c : tie.Else5) → firstOf (rows (at-5 c)) ≡ firstOf (drop 7 (rows (at-5 c)))
 past-11 c =
     let r = c .before .before in
-    past-10 (r .before) ∙ rows-next (numbers (at-5 c)) (drop 7 (rows (at-5 c))) (r .read-numbers .result .number) refl (numbers-are r .number-is) (c .if5 .left)
+    past-10 (r .before) ∙ rows-next (numbers (at-5 c)) (drop 7 (rows (at-5 c))) (r .read-numbers .result .number) refl (r .read-numbers .ensures .number-is) (c .if5 .left)
 
 past-13 : (c : tie.Else6) → firstOf (rows (at-6 c)) ≡ firstOf (drop 12 (rows (at-6 c)))
 past-13 c =
     past-11 (c .before .before)
-    ∙ rows-next (spelling (at-6 c)) (drop 12 (rows (at-6 c))) (c .before .bytes-and-spelling .result) refl (spelling-is (c .before)) (c .if6 .left)
+    ∙ rows-next (spelling (at-6 c)) (drop 12 (rows (at-6 c))) (c .before .bytes-and-spelling .result) refl (c .before .bytes-and-spelling .ensures) (c .if6 .left)
 
 past-14 : (c : tie.Else7) → firstOf (rows (at-7 c)) ≡ firstOf (drop 13 (rows (at-7 c)))
-past-14 c = past-13 (c .before .before) ∙ rw (← salt-is (c .before), c .if7 .left)
+past-14 c = past-13 (c .before .before) ∙ rw (← c .before .bad-bytes .ensures, c .if7 .left)
 
 -- the numbers read, where no row applies to them
 kept : (c : tie.Else5) → let j = c .before .before .read-numbers .result in NumbersAre (entry (at-5 c)) (values (at-5 c)) (j .m) (j .t) (j .p)
 kept c =
     let r = c .before .before in
-    numbers-are r .numbers-are (sym (numbers-are r .number-is) ∙ c .if5 .left)
+    r .read-numbers .ensures .numbers-are (sym (r .read-numbers .ensures .number-is) ∙ c .if5 .left)
 
 returns : tie.Need-returns
 returns c =
-    let a = c .before .before .before .before in
-    refuse a (c .refused .result) 8 (c .refused .ensures) (rw (eq-eqb (a .args .id) 0 (c .before .if1 .taken))) (λ z. absurd (omega arith))
+    let a = c .before .before .before .before .before in
+    refuse a (c .refused .result) 8 (c .refused .ensures) (rw (c .before .if1 .taken)) (λ z. absurd (omega arith))
 
 returns-2 : tie.Need-returns-2
 returns-2 c =
@@ -137,22 +115,19 @@ returns-2 c =
 
 returns-3 : tie.Need-returns-3
 returns-3 c =
-    let a = c .before .before .before .before .before .before .before .before in
-    refuse a (c .refused3 .result) 10 (c .refused3 .ensures) (past-9 (c .before .before .before) ∙ rw (c .before .if3 .taken)) (λ z. absurd (omega arith))
+    let a = at-2 (c .before .before) in
+    refuse a (c .refused3 .result) 10 (c .refused3 .ensures) (past-9 (c .before .before) ∙ ten-strange (a .args .values .strange) (misplaced (entry a) (values a)) (drop 3 (rows a)) (c .before .if3 .taken)) (λ z. absurd (omega arith))
 
 returns-4 : tie.Need-returns-4
 returns-4 c =
-    let a = c .before .before .before .before .before .before .before .before .before .before in
-    refuse a (c .refused4 .result) 10 (c .refused4 .ensures) (past-9 (c .before .before .before .before .before) ∙ rw (c .before .before .before .if3 .left, ← misplaced-is (c .before .before), c .before .if4 .taken)) (λ z. absurd (omega arith))
-
-read-numbers-requires : tie.Need-read-numbers-requires
-read-numbers-requires c κs = sym (c .before .is-misplaced .ensures _) ∙ c .if4 .left
+    let a = at-3 (c .before .before .before) in
+    refuse a (c .refused4 .result) 10 (c .refused4 .ensures) (past-9 (c .before .before .before .before) ∙ ten-missing (a .args .values .strange) (misplaced (entry a) (values a)) (drop 3 (rows a)) (c .before .before .before .if3 .left) (sym (misplaced-is (c .before .before)) ∙ c .before .if4 .taken)) (λ z. absurd (omega arith))
 
 returns-5 : tie.Need-returns-5
 returns-5 c =
     let r = c .before .before in
     let a = at-4 (r .before) in
-    judged-before (numbers a) (drop 7 (rows a)) (entry a) (values a) (r .read-numbers .result) (numbers-are r) (c .if5 .taken) (rows a) (past-10 (r .before))
+    judged-before (numbers a) (drop 7 (rows a)) (entry a) (values a) (r .read-numbers .result) (r .read-numbers .ensures) (c .if5 .taken) (rows a) (past-10 (r .before))
 
 bytes-and-spelling-requires : tie.Need-bytes-and-spelling-requires
 bytes-and-spelling-requires c κs =
@@ -164,23 +139,23 @@ returns-6 c =
     let b = c .before .before in
     let a = at-5 (b .before) in
     refuse a (c .refused5 .result) (b .bytes-and-spelling .result) (c .refused5 .ensures)
-    (past-11 (b .before) ∙ rows-stop (spelling a) (drop 12 (rows a)) (b .bytes-and-spelling .result) (spelling-is b) (c .before .if6 .taken))
+    (past-11 (b .before) ∙ rows-stop (spelling a) (drop 12 (rows a)) (b .bytes-and-spelling .result) (b .bytes-and-spelling .ensures) (c .before .if6 .taken))
     (c .before .if6 .taken)
 
 returns-7 : tie.Need-returns-7
 returns-7 c =
     let a = at-6 (c .before .before .before) in
-    refuse a (c .refused6 .result) 14 (c .refused6 .ensures) (past-13 (c .before .before .before) ∙ rw (← salt-is (c .before .before), c .before .if7 .taken)) (λ z. absurd (omega arith))
+    refuse a (c .refused6 .result) 14 (c .refused6 .ensures) (past-13 (c .before .before .before) ∙ rw (← c .before .before .bad-bytes .ensures, c .before .if7 .taken)) (λ z. absurd (omega arith))
 
 returns-8 : tie.Need-returns-8
 returns-8 c =
     let a = at-7 (c .before .before .before) in
-    refuse a (c .refused7 .result) 15 (c .refused7 .ensures) (past-14 (c .before .before .before) ∙ rw (← output-is (c .before .before), c .before .if8 .taken)) (λ z. absurd (omega arith))
+    refuse a (c .refused7 .result) 15 (c .refused7 .ensures) (past-14 (c .before .before .before) ∙ rw (← c .before .before .bad-size .ensures, c .before .if8 .taken)) (λ z. absurd (omega arith))
 
 returns-9 : tie.Need-returns-9
 returns-9 c =
     let a = at-8 c in
-    judged-accepted (rows a) (entry a) (values a) _ (c .before .before .before .before .before .before .if5 .left) (past-14 (c .before .before) ∙ rw (← output-is (c .before), c .if8 .left)) (kept (c .before .before .before .before .before .before))
+    judged-accepted (rows a) (entry a) (values a) _ (c .before .before .before .before .before .before .if5 .left) (past-14 (c .before .before) ∙ rw (← c .before .bad-size .ensures, c .if8 .left)) (kept (c .before .before .before .before .before .before))
 
 pub judge-spec : {M : Type 1} → statement M
 judge-spec =
@@ -192,12 +167,11 @@ judge-spec =
     (λ c κs. search needs)
     returns-2
     (λ c κs. search needs)
-    (λ c κs. search needs)
     returns-3
     (λ c κs. search needs)
     (λ c κs. search needs)
     returns-4
-    read-numbers-requires
+    (λ c κs. search needs)
     returns-5
     bytes-and-spelling-requires
     (λ c κs. search needs)

@@ -1,6 +1,5 @@
 -- `profile::judge::read_numbers` meets its contract, row by row. Assumes nothing.
 use Prim.Native.Nat.{ℕ, _*_, _/_}
-use mathlib.Core.Bool.{false}
 use mathlib.Core.List.{List, [], _∷_, _++_}
 use mathlib.Core.Path.{_≡_, refl, _∙_}
 use native.Mathlib.Omega.{arith}
@@ -11,36 +10,37 @@ use lib.Dec.{ltb}
 use Rattle.text.specs.Rows.{Row, row, firstOf}
 use Rattle.text.proofs.Rows.{rows-stop, rows-next}
 use Rattle.grammar.specs.Pieces.{Slot}
-use Rattle.profile.specs.Fields.{misplacedNumber, readNumber}
+use Rattle.profile.specs.Limits.{Profile}
+use Rattle.profile.specs.Columns.{profileIn}
+use Rattle.profile.specs.Fields.{readNumber}
 use Rattle.profile.specs.Reader.{slotAt, numberRow, numberRows}
 use Rattle.profile.specs.ReaderSteps.{slotsIn, Judged}
 use Rattle.profile.specs.declared.judge.Judgement.{Judgement}
-use Rattle.profile.specs.declared.limits.Limits.{Limits}
-use Rattle.profile.proofs.JudgeLaws.{placed, lanes, judged-refused, judged-accepted}
+use Rattle.profile.proofs.JudgeLaws.{lanes, judged-refused, judged-accepted}
 use Rattle.profile.proofs.judge.read_numbers.Statement.{statement}
 use Rattle.profile.proofs.judge.read_numbers.Tie as tie
 
--- the limits, the values of the names, and the rows
-abbrev limits : tie.Start → Limits
-limits a = a .args .limits
+-- the column, the values of the names, and the rows
+abbrev entry : tie.Start → Profile
+entry a = profileIn (a .args .column)
 
 abbrev values : tie.Start → List Slot
 values a = slotsIn (now (a .args .params)) (a .args .values)
 
 abbrev rows : tie.Start → List Row
-rows a = numberRows (limits a) (values a)
+rows a = numberRows (entry a) (values a)
 
 abbrev m-rows : tie.Start → List Row
-m-rows a = numberRow (limits a .m) (slotAt (values a) 0)
+m-rows a = numberRow (entry a .m) (slotAt (values a) 0)
 
 abbrev t-rows : tie.Start → List Row
-t-rows a = numberRow (limits a .t) (slotAt (values a) 1)
+t-rows a = numberRow (entry a .t) (slotAt (values a) 1)
 
 abbrev p-rows : tie.Start → List Row
-p-rows a = numberRow (limits a .p) (slotAt (values a) 2)
+p-rows a = numberRow (entry a .p) (slotAt (values a) 2)
 
 abbrev last : tie.Start → List Row
-last a = row 11 (ltb (readNumber (limits a .m) (slotAt (values a) 0)) (8 * readNumber (limits a .p) (slotAt (values a) 2))) ∷ []
+last a = row 11 (ltb (readNumber (entry a .m) (slotAt (values a) 0)) (8 * readNumber (entry a .p) (slotAt (values a) 2))) ∷ []
 
 -- where the function began, from each number
 abbrev at-m : tie.After-read-number → tie.Start
@@ -52,12 +52,8 @@ to-m c = c .before .before .before .before
 abbrev to-t : tie.After-read-number3 → tie.After-read-number2
 to-t c = c .before .before .before .before
 
-in-place : (a : tie.Start)
-    → (misplacedNumber (limits a .m) (slotAt (values a) 0) ≡ false) × (misplacedNumber (limits a .t) (slotAt (values a) 1) ≡ false) × (misplacedNumber (limits a .p) (slotAt (values a) 2) ≡ false)
-in-place a = placed (limits a) (values a) (a .pre)
-
-refuse : (a : tie.Start) (j : Judgement) (n : ℕ) → j ≡ record { number = n; m = 0; t = 0; p = 0 } → firstOf (rows a) ≡ n → (n ≡ 0 → ⊥) → Judged (rows a) (limits a) (values a) j
-refuse a j n e h z = judged-refused (rows a) (limits a) (values a) j n e h z
+refuse : (a : tie.Start) (j : Judgement) (n : ℕ) → j ≡ record { number = n; m = 0; t = 0; p = 0 } → firstOf (rows a) ≡ n → (n ≡ 0 → ⊥) → Judged (rows a) (entry a) (values a) j
+refuse a j n e h z = judged-refused (rows a) (entry a) (values a) j n e h z
 
 -- past each number that keeps its rule
 past-m : (c : tie.Else1) → let a = at-m (c .before .before) in firstOf (rows a) ≡ firstOf (t-rows a ++ (p-rows a ++ last a))
@@ -88,9 +84,6 @@ below c =
     let m = to-m (to-t p) in
     past-p c ∙ rw (← m .read-number .ensures .1, ← p .read-number3 .ensures .1, lanes)
 
-read-number-requires : tie.Need-read-number-requires
-read-number-requires c κs = in-place (c .before .before) .0
-
 returns : tie.Need-returns
 returns c =
     let m = c .before .before .before in
@@ -99,9 +92,6 @@ returns c =
     (rows-stop (m-rows a) (t-rows a ++ (p-rows a ++ last a)) (m .read-number .result .number) (m .read-number .ensures .0) (c .before .if1 .taken))
     (c .before .if1 .taken)
 
-read-number-requires-2 : tie.Need-read-number-requires-2
-read-number-requires-2 c κs = in-place (at-m (c .before .before .before)) .1
-
 returns-2 : tie.Need-returns-2
 returns-2 c =
     let t = c .before .before .before in
@@ -109,9 +99,6 @@ returns-2 c =
     refuse a (c .refused2 .result) (t .read-number2 .result .number) (c .refused2 .ensures)
     (past-m (t .before .before) ∙ rows-stop (t-rows a) (p-rows a ++ last a) (t .read-number2 .result .number) (t .read-number2 .ensures .0) (c .before .if2 .taken))
     (c .before .if2 .taken)
-
-read-number-requires-3 : tie.Need-read-number-requires-3
-read-number-requires-3 c κs = in-place (at-m (to-m (c .before .before .before))) .2
 
 returns-3 : tie.Need-returns-3
 returns-3 c =
@@ -134,20 +121,20 @@ returns-5 c =
     let t = to-t p in
     let m = to-m t in
     let a = at-m m in
-    judged-accepted (rows a) (limits a) (values a) _ refl (below e ∙ rw (le-ltb _ _ (c .if4 .left)))
+    judged-accepted (rows a) (entry a) (values a) _ refl (below e ∙ rw (le-ltb _ _ (c .if4 .left)))
     (record { m-is = m .read-number .ensures .1; t-is = t .read-number2 .ensures .1; p-is = p .read-number3 .ensures .1 })
 
 pub read-numbers-spec : {M : Type 1} → statement M
 read-numbers-spec =
     tie.close
     (tie.spec
-    read-number-requires
+    (λ c κs. search needs)
     (λ c κs. search needs)
     returns
-    read-number-requires-2
+    (λ c κs. search needs)
     (λ c κs. search needs)
     returns-2
-    read-number-requires-3
+    (λ c κs. search needs)
     (λ c κs. search needs)
     returns-3
     (λ c κs. search needs)

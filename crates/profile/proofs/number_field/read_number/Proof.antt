@@ -23,7 +23,7 @@ returns-2 : tie.Need-returns-2
 returns-2 c =
     let f = c .before .before in
     let a = f .before .before .before in
-    let n = number-there (now (a .args .t)) (a .args .span) (a .args .rule) (f .if1 .left) (a .pre) in (
+    let n = number-there (now (a .args .t)) (a .args .span) (a .args .rule) (f .if1 .left) in (
       c .written .ensures .0 ∙ ap (λ (t : List ℕ). firstOf (numberRow (a .args .rule) (some t))) (c .before .part .ensures) ∙ n .0,
       c .written .ensures .1 ∙ ap (λ (t : List ℕ). limitedValue (numberReading (a .args .rule) t)) (c .before .part .ensures) ∙ n .1,
     )

@@ -6,13 +6,14 @@ use borrow.Author.Needs.{needs}
 use borrow.Author.Tests.{lt-ltb, le-ltb}
 use lib.ListN.{drop}
 use Rattle.text.specs.Rows.{firstOf}
+use Rattle.profile.specs.Columns.{profileIn}
 use Rattle.profile.specs.Writer.{rangeRows}
 use Rattle.profile.proofs.writer_rows.bad_numbers.Statement.{statement}
 use Rattle.profile.proofs.writer_rows.bad_numbers.Tie as tie
 
 -- the rows that are left past so many
 abbrev past : ℕ → tie.Start → ℕ
-past k s = firstOf (drop k (rangeRows (s .args .limits) (s .args .n)))
+past k s = firstOf (drop k (rangeRows (profileIn (s .args .column)) (s .args .n)))
 
 past-1 : (c : tie.Else1) → past 0 (c .before .before) ≡ past 1 (c .before .before)
 past-1 c = rw (← c .before .in-range .ensures, c .if1 .left)

@@ -5,6 +5,7 @@ use borrow.Author.Needs.{needs}
 use denote.Ref.{now}
 use Rattle.text.specs.Text.{text}
 use Rattle.text.proofs.Wrote.{AllFit, First, Next, first-room, first-wrote, next-room, next-wrote, chain-sum}
+use Rattle.profile.specs.Columns.{profileIn}
 use Rattle.profile.specs.Fields.{writeNumber}
 use Rattle.profile.specs.PieceTexts.{tagged}
 use Rattle.profile.proofs.writer_text.put_costs.Statement.{statement}
@@ -12,7 +13,7 @@ use Rattle.profile.proofs.writer_text.put_costs.Tie as tie
 
 -- the texts fit
 fits : (s : tie.Start)
-    → let l = s .args .limits in
+    → let l = profileIn (s .args .column) in
     let n = s .args .n in
     AllFit (now (s .args .out)) (tagged (text ",m=") (writeNumber (l .m) (n .m)))
     (tagged (text ",t=") (writeNumber (l .t) (n .t)) ∷ tagged (text ",p=") (writeNumber (l .p) (n .p)) ∷ [])

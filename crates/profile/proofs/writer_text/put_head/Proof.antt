@@ -5,7 +5,7 @@ use borrow.Author.Needs.{needs}
 use denote.Ref.{now}
 use Rattle.text.specs.Text.{text}
 use Rattle.text.proofs.Wrote.{AllFit, First, Next, first-room, first-wrote, next-room, next-wrote, chain-sum}
-use Rattle.profile.specs.Limits.{profileOf, editionTwo}
+use Rattle.profile.specs.Columns.{nameAt, profileIn}
 use Rattle.profile.specs.Fields.{writeVersion}
 use Rattle.profile.specs.PieceTexts.{tagged, itemsText, dollared}
 use Rattle.profile.proofs.writer_text.put_head.Statement.{statement}
@@ -14,8 +14,8 @@ use Rattle.profile.proofs.writer_text.put_head.Tie as tie
 -- the texts fit
 fits : (s : tie.Start)
     → let n = s .args .n in
-    AllFit (now (s .args .out)) (36 ∷ profileOf editionTwo (n .id) .name)
-    (tagged (text "$") (writeVersion (n .version)) ∷ dollared (itemsText (s .args .limits) n (now (s .args .keyid)) (now (s .args .ad))) ∷ [])
+    AllFit (now (s .args .out)) (36 ∷ nameAt (s .args .column .name))
+    (tagged (text "$") (writeVersion (n .version)) ∷ dollared (itemsText (profileIn (s .args .column)) n (now (s .args .keyid)) (now (s .args .ad))) ∷ [])
 fits s = record { room = s .pre; small = omega arith }
 
 -- what is put after each call

@@ -5,6 +5,7 @@ use borrow.Author.Needs.{needs}
 use denote.Ref.{now}
 use Rattle.text.specs.Text.{text}
 use Rattle.text.proofs.Wrote.{AllFit, First, Next, first-room, first-wrote, next-room, next-wrote, chain-sum}
+use Rattle.profile.specs.Columns.{profileIn}
 use Rattle.profile.specs.Fields.{writeBytes}
 use Rattle.profile.specs.PieceTexts.{tagged, costsText}
 use Rattle.profile.proofs.writer_text.put_items.Statement.{statement}
@@ -12,7 +13,7 @@ use Rattle.profile.proofs.writer_text.put_items.Tie as tie
 
 -- the texts fit
 fits : (s : tie.Start)
-    → AllFit (now (s .args .out)) (costsText (s .args .limits) (s .args .n))
+    → AllFit (now (s .args .out)) (costsText (profileIn (s .args .column)) (s .args .n))
     (tagged (text ",keyid=") (writeBytes (now (s .args .keyid))) ∷ tagged (text ",data=") (writeBytes (now (s .args .ad))) ∷ [])
 fits s = record { room = s .pre; small = omega arith }
 

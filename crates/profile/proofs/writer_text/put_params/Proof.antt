@@ -6,6 +6,7 @@ use borrow.Author.Needs.{needs}
 use denote.Ref.{now}
 use lib.ListN.{length}
 use Rattle.text.proofs.Wrote.{wrote-length}
+use Rattle.profile.specs.Columns.{profileIn}
 use Rattle.profile.specs.PieceTexts.{itemsText}
 use Rattle.profile.proofs.Texts.{dollared-length}
 use Rattle.profile.proofs.WriterLaws.{wrote-none, wrote-dollar}
@@ -13,7 +14,7 @@ use Rattle.profile.proofs.writer_text.put_params.Statement.{statement}
 use Rattle.profile.proofs.writer_text.put_params.Tie as tie
 
 abbrev items : tie.Start → List ℕ
-items s = itemsText (s .args .limits) (s .args .n) (now (s .args .keyid)) (now (s .args .ad))
+items s = itemsText (profileIn (s .args .column)) (s .args .n) (now (s .args .keyid)) (now (s .args .ad))
 
 abbrev start : tie.After-put-items → tie.Start
 start c = c .before .before .before .before .before

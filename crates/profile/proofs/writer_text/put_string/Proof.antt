@@ -5,7 +5,7 @@ use borrow.Author.Needs.{needs}
 use denote.Ref.{now}
 use Rattle.text.specs.Text.{text}
 use Rattle.text.proofs.Wrote.{AllFit, First, Next, first-room, first-wrote, next-room, next-wrote, chain-sum}
-use Rattle.profile.specs.Limits.{profileOf, editionTwo}
+use Rattle.profile.specs.Columns.{profileIn}
 use Rattle.profile.specs.Fields.{writeBytes}
 use Rattle.profile.specs.PieceTexts.{tagged, headText}
 use Rattle.profile.proofs.writer_text.put_string.Statement.{statement}
@@ -14,7 +14,7 @@ use Rattle.profile.proofs.writer_text.put_string.Tie as tie
 -- the texts fit
 fits : (s : tie.Start)
     → let n = s .args .n in
-    AllFit (now (s .args .out)) (headText (s .args .limits) (profileOf editionTwo (n .id) .name) n (now (s .args .keyid)) (now (s .args .ad)))
+    AllFit (now (s .args .out)) (headText (profileIn (s .args .column)) n (now (s .args .keyid)) (now (s .args .ad)))
     (tagged (text "$") (writeBytes (now (s .args .salt))) ∷ tagged (text "$") (writeBytes (now (s .args .output))) ∷ [])
 fits s = record { room = s .pre; small = omega arith }
 

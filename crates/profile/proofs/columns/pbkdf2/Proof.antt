@@ -1,11 +1,9 @@
--- `profile::limits::pbkdf2` meets its contract. Assumes nothing.
+-- `profile::columns::pbkdf2` meets its contract. Assumes nothing.
 use borrow.Author.Needs.{needs}
-use Rattle.profile.specs.Limits.{editionTwo}
-use Rattle.profile.proofs.limits.pbkdf2.Statement.{statement}
-use Rattle.profile.proofs.limits.pbkdf2.Tie as tie
+use Rattle.profile.proofs.columns.pbkdf2.Statement.{statement}
+use Rattle.profile.proofs.columns.pbkdf2.Tie as tie
 
 returns : tie.Need-returns
-unfolding editionTwo
 returns c = rw (c .before .before .sized .ensures, c .before .sized2 .ensures, c .sized3 .ensures)
 
 pub pbkdf2-spec : {M : Type 1} → statement M

@@ -1,11 +1,9 @@
--- `profile::limits::argon2` meets its contract. Assumes nothing.
+-- `profile::columns::argon2` meets its contract. Assumes nothing.
 use borrow.Author.Needs.{needs}
-use Rattle.profile.specs.Limits.{editionTwo}
-use Rattle.profile.proofs.limits.argon2.Statement.{statement}
-use Rattle.profile.proofs.limits.argon2.Tie as tie
+use Rattle.profile.proofs.columns.argon2.Statement.{statement}
+use Rattle.profile.proofs.columns.argon2.Tie as tie
 
 returns : tie.Need-returns
-unfolding editionTwo
 returns c = rw (c .before .before .before .sized .ensures, c .before .before .sized2 .ensures, c .before .sized3 .ensures, c .sized4 .ensures)
 
 pub argon2-spec : {M : Type 1} → statement M

@@ -1,0 +1,59 @@
+-- The writer's rows don't apply exactly where the column of the id allows the fields.
+-- Assumes nothing.
+use Prim.Native.Nat.{_*_}
+use mathlib.Core.List.{List}
+use mathlib.Core.Path.{_≡_, refl}
+use borrow.Author.Tests.{ltb-false, le-ltb}
+use Rattle.text.proofs.Tests.{not-of-true, is-true}
+use Rattle.text.proofs.Rows.{clear, zero-of}
+use Rattle.profile.specs.Limits.{Profile, inRange, versionAllowed, profileOf}
+use Rattle.profile.specs.Fields.{FieldSet}
+use Rattle.profile.specs.Writer.{bytesAllowed, Allows, writerRows, refusal}
+
+-- the entry of the fields' id
+abbrev pub here : List Profile → FieldSet → Profile
+here e f = profileOf e (f .numbers .id)
+
+pub allowed : (e : List Profile) (f : FieldSet) → refusal e f ≡ 0 → Allows (here e f) f
+unfolding refusal
+allowed e f z =
+    let (r8, (r9, (m, (t, (p, (lanes, (keyid, (ad, (salt, (output, (order, u))))))))))) = clear (writerRows e f) refl z in
+    let n = f .numbers in
+    let r = here e f in
+    record {
+      id = is-true (r .known) r8;
+      version = is-true (versionAllowed (r .versions) (n .version)) r9;
+      m = is-true (inRange (r .m) (n .m)) m;
+      t = is-true (inRange (r .t) (n .t)) t;
+      p = is-true (inRange (r .p) (n .p)) p;
+      lanes = ltb-false (n .m) (8 * n .p) lanes;
+      keyid = is-true (bytesAllowed (r .keyid) (f .keyid)) keyid;
+      ad = is-true (bytesAllowed (r .ad) (f .ad)) ad;
+      salt = is-true (bytesAllowed (r .salt) (f .salt)) salt;
+      output = is-true (bytesAllowed (r .output) (f .output)) output;
+      order = order;
+    }
+
+pub allowed-zero : (e : List Profile) (f : FieldSet) → Allows (here e f) f → refusal e f ≡ 0
+unfolding refusal
+allowed-zero e f h =
+    let n = f .numbers in
+    zero-of (writerRows e f) (
+      not-of-true (h .id),
+      (
+        not-of-true (h .version),
+        (
+          not-of-true (h .m),
+          (
+            not-of-true (h .t),
+            (
+              not-of-true (h .p),
+              (
+                le-ltb (n .m) (8 * n .p) (h .lanes),
+                (not-of-true (h .keyid), (not-of-true (h .ad), (not-of-true (h .salt), (not-of-true (h .output), (h .order, tt))))),
+              ),
+            ),
+          ),
+        ),
+      ),
+    )
