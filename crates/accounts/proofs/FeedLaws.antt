@@ -8,7 +8,7 @@ use native.Mathlib.Omega.{arith}
 use borrow.Author.Tests.{le-leb, lt-leb}
 use lib.ListN.{length, take, drop, length-take, length-drop}
 use lib.Seq.{take-take}
-use Rattle.text.specs.Text.{has, find, cut, nextAt}
+use Rattle.text.specs.Text.{lineFeed, has, find, cut, nextAt}
 use Rattle.text.specs.Place.{Outcome, outcome, refused, hasRoom, over, put}
 use Rattle.text.proofs.Scanning.{find-le}
 use Rattle.text.proofs.Splitting.{cut-before, found, unfound, cut-to}
@@ -23,15 +23,15 @@ use Rattle.accounts.specs.declared.listing.Listed.the-variants.{Row, Use
 
 -- ---- the bytes that a state stands for
 
-pub held-by : (d : List ℕ) (kept n e : ℕ) → n ≡ min kept (length d) → e ≡ nextAt 10 (take (n - 0) (drop 0 d)) 0 → Held d kept e
+pub held-by : (d : List ℕ) (kept n e : ℕ) → n ≡ min kept (length d) → e ≡ nextAt lineFeed (take (n - 0) (drop 0 d)) 0 → Held d kept e
 unfolding heldOf
 held-by d kept n e q r =
     let t : take (n - 0) (drop 0 d) ≡ take kept d = let z : n - 0 ≡ min kept (length d) = omega arith in ap (λ (k : ℕ). take k d) z ∙ take-min d kept in
-    let f : e ≡ find 10 (take kept d) = r ∙ (let z : nextAt 10 (take (n - 0) (drop 0 d)) 0 ≡ find 10 (take (n - 0) (drop 0 d)) = omega arith in z) ∙ ap (find 10) t in
+    let f : e ≡ find lineFeed (take kept d) = r ∙ (let z : nextAt lineFeed (take (n - 0) (drop 0 d)) 0 ≡ find lineFeed (take (n - 0) (drop 0 d)) = omega arith in z) ∙ ap (find lineFeed) t in
     let l : length (take kept d) ≡ min kept (length d) = length-take kept d in
-    let b : e ≤ length (take kept d) = omega (arith, find-le 10 (take kept d)) in
+    let b : e ≤ length (take kept d) = omega (arith, find-le lineFeed (take kept d)) in
     record {
-      bytes = sym (cut-before 10 (take kept d) ∙ ap (λ (k : ℕ). take k (take kept d)) (sym f) ∙ take-take e kept d (omega arith));
+      bytes = sym (cut-before lineFeed (take kept d) ∙ ap (λ (k : ℕ). take k (take kept d)) (sym f) ∙ take-take e kept d (omega arith));
       inside = omega arith;
     }
 
@@ -79,33 +79,33 @@ module _ (d buf left t : List ℕ) (n place at number count : ℕ) where
 -- ---- the next line of a part
 
 module _ (d : List ℕ) (kept held n : ℕ) (part : List ℕ) (from e : ℕ) (buf : List ℕ) where
-  pub next-row : (left : List ℕ) (at : ℕ) (r : Listed) (a : Answer) → Held d kept held → e ≡ nextAt 10 part from → e < length part
+  pub next-row : (left : List ℕ) (at : ℕ) (r : Listed) (a : Answer) → Held d kept held → e ≡ nextAt lineFeed part from → e < length part
       → a ≡ lineAnswer (take (held - 0) (drop 0 d) ++ take (e - from) (drop from part))
       → fed r d left ≡ rowFed n (rowText n a) (e + 1) d buf at → fed r d left ≡ nextFed d kept n part from buf at
   unfolding nextFed
   next-row left at r a h q l b f =
       let s = drop from part in
-      let there : has 10 s ≡ true = found 10 s (omega (arith, length-drop from part)) in
-      let line : take (e - from) s ≡ cut 10 s .0 = cut-to 10 part from e q in
+      let there : has lineFeed s ≡ true = found lineFeed s (omega (arith, length-drop from part)) in
+      let line : take (e - from) s ≡ cut lineFeed s .0 = cut-to lineFeed part from e q in
       let begun : take (held - 0) (drop 0 d) ≡ heldOf d kept = (let z : held - 0 ≡ held = omega arith in ap (λ (k : ℕ). take k d) z) ∙ h .bytes in
-      let answer : a ≡ lineAnswer (heldOf d kept ++ cut 10 s .0) = b ∙ (λ i. lineAnswer (begun i ++ line i)) in
-      let place : e + 1 ≡ suc (from + find 10 s) = omega arith in
+      let answer : a ≡ lineAnswer (heldOf d kept ++ cut lineFeed s .0) = b ∙ (λ i. lineAnswer (begun i ++ line i)) in
+      let place : e + 1 ≡ suc (from + find lineFeed s) = omega arith in
       rw there (f ∙ (λ i. rowFed n (rowText n (answer i)) (place i) d buf at))
 
-  pub next-used : (d₁ : List ℕ) (at more : ℕ) (rest : List ℕ) → at ≤ length buf → length d ≡ mostKept → Held d kept held → e ≡ nextAt 10 part from → length part ≤ e → rest ≡ drop from part
+  pub next-used : (d₁ : List ℕ) (at more : ℕ) (rest : List ℕ) → at ≤ length buf → length d ≡ mostKept → Held d kept held → e ≡ nextAt lineFeed part from → length part ≤ e → rest ≡ drop from part
       → more ≡ held + length (take (mostKept - held) rest) → d₁ ≡ over d held (take (mostKept - held) rest)
       → fed (UsedUp more) d₁ buf ≡ nextFed d kept n part from buf at
   unfolding nextFed
   next-used d₁ at more rest inside l h q g r m o =
       let s = drop from part in
-      let none : has 10 s ≡ false = unfound 10 s (omega (arith, length-drop from part)) in
+      let none : has lineFeed s ≡ false = unfound lineFeed s (omega (arith, length-drop from part)) in
       let u : take mostKept (take held d ++ s) ≡ take mostKept (heldOf d kept ++ s) = ap (λ (v : List ℕ). take mostKept (v ++ s)) (h .bytes) in
       let i = h .inside in
       let count : more ≡ length (take mostKept (heldOf d kept ++ s)) = m ∙ ap (λ (v : List ℕ). held + length (take (mostKept - held) v)) r ∙ kept-count mostKept d s held (omega arith) i ∙ ap length u in
       let array : d₁ ≡ over d 0 (take mostKept (heldOf d kept ++ s)) = o ∙ ap (λ (v : List ℕ). over d held (take (mostKept - held) v)) r ∙ kept-over mostKept d s held (omega arith) i ∙ ap (over d 0) u in
       rw (none, le-leb (at + 0) (length buf) (omega arith)) (λ i. fed (UsedUp (count i)) (array i) buf)
 
-  pub next-past : (at : ℕ) → e ≡ nextAt 10 part from → length part ≤ e → length buf < at → fed NoRoom d buf ≡ nextFed d kept n part from buf at
+  pub next-past : (at : ℕ) → e ≡ nextAt lineFeed part from → length part ≤ e → length buf < at → fed NoRoom d buf ≡ nextFed d kept n part from buf at
   unfolding nextFed
   next-past at q g outside =
-      rw (unfound 10 (drop from part) (omega (arith, length-drop from part)), lt-leb (at + 0) (length buf) (omega arith))
+      rw (unfound lineFeed (drop from part) (omega (arith, length-drop from part)), lt-leb (at + 0) (length buf) (omega arith))

@@ -8,27 +8,27 @@ use native.Mathlib.Omega.{arith}
 use lib.Dec.{eqb}
 use lib.ListN.{length, length-append}
 use borrow.Author.Tests.{ne-eqb}
-use Rattle.text.specs.Text.{text}
+use Rattle.text.specs.Text.{text, tab, lineFeed}
 use Rattle.decimal.specs.Decimal.{digits}
 use Rattle.accounts.specs.Listing.{kindLine, rowText}
 use Rattle.accounts.specs.declared.line.Answer.{Answer}
 
-pub kind-1 : (k : ℕ) → k ≡ 1 → kindLine k ≡ text "parameters" ++ (10 ∷ [])
+pub kind-1 : (k : ℕ) → k ≡ 1 → kindLine k ≡ text "parameters" ++ (lineFeed ∷ [])
 kind-1 k e = rw e
 
-pub kind-2 : (k : ℕ) → k ≡ 2 → kindLine k ≡ text "salt" ++ (10 ∷ [])
+pub kind-2 : (k : ℕ) → k ≡ 2 → kindLine k ≡ text "salt" ++ (lineFeed ∷ [])
 kind-2 k e = rw e
 
-pub kind-3 : (k : ℕ) → k ≡ 3 → kindLine k ≡ text "hash" ++ (10 ∷ [])
+pub kind-3 : (k : ℕ) → k ≡ 3 → kindLine k ≡ text "hash" ++ (lineFeed ∷ [])
 kind-3 k e = rw e
 
-pub kind-other : (k : ℕ) → (k ≡ 1 → ⊥) → (k ≡ 2 → ⊥) → (k ≡ 3 → ⊥) → kindLine k ≡ text "-" ++ (10 ∷ [])
+pub kind-other : (k : ℕ) → (k ≡ 1 → ⊥) → (k ≡ 2 → ⊥) → (k ≡ 3 → ⊥) → kindLine k ≡ text "-" ++ (lineFeed ∷ [])
 kind-other k p q r = rw (ne-eqb k 1 p, ne-eqb k 2 q, ne-eqb k 3 r)
 
 pub kind-length : (k : ℕ) → length (kindLine k) ≤ 11
 kind-length k = go (eqb k 1) (eqb k 2) (eqb k 3)
   where
-    go : (a b c : Bool) → length (cond a (text "parameters") (cond b (text "salt") (cond c (text "hash") (text "-"))) ++ (10 ∷ [])) ≤ 11
+    go : (a b c : Bool) → length (cond a (text "parameters") (cond b (text "salt") (cond c (text "hash") (text "-"))) ++ (lineFeed ∷ [])) ≤ 11
     go true b c = omega arith
     go false true c = omega arith
     go false false true = omega arith
@@ -38,7 +38,7 @@ pub row-length : (n : ℕ) (a : Answer) → length (rowText n a) ≡ length (dig
 unfolding rowText
 row-length n a =
     let t₁ = digits n in
-    let t₂ = t₁ ++ (9 ∷ []) in
+    let t₂ = t₁ ++ (tab ∷ []) in
     let t₃ = t₂ ++ digits (a .number) in
-    let t₄ = t₃ ++ (9 ∷ []) in
-    omega (arith, length-append t₄ (kindLine (a .kind)), length-append t₃ (9 ∷ []), length-append t₂ (digits (a .number)), length-append t₁ (9 ∷ []))
+    let t₄ = t₃ ++ (tab ∷ []) in
+    omega (arith, length-append t₄ (kindLine (a .kind)), length-append t₃ (tab ∷ []), length-append t₂ (digits (a .number)), length-append t₁ (tab ∷ []))

@@ -10,7 +10,7 @@ use lib.Dec.{eqb}
 use lib.ListN.{length, take, drop, length-take, length-drop}
 use lib.Seq.{append-snoc, take-take}
 use borrow.Author.Tests.{leb-true, le-leb}
-use Rattle.text.specs.Text.{has, find, cut, cutByte, concat}
+use Rattle.text.specs.Text.{lineFeed, has, find, cut, cutByte, concat}
 use Rattle.text.specs.Place.{outcome, hasRoom, over, put}
 use Rattle.text.proofs.Lists.{has-append, cut-free, cut-whole, take-free}
 use Rattle.text.proofs.Splitting.{find-inside, cut-past}
@@ -28,25 +28,25 @@ use Rattle.accounts.proofs.LineLaws.{answer-long}
 -- ---- lines
 
 -- bytes without a line feed only make the first line longer
-pub from-plain : (s u t : List ℕ) → has 10 s ≡ false → linesFrom u (s ++ t) ≡ linesFrom (u ++ s) t
+pub from-plain : (s u t : List ℕ) → has lineFeed s ≡ false → linesFrom u (s ++ t) ≡ linesFrom (u ++ s) t
 from-plain [] u t h = ap (λ (v : List ℕ). linesFrom v t) (sym (append-nil u))
-from-plain (a ∷ s) u t h = go (eqb a 10) (from-plain s (u ++ (a ∷ [])) t) h
+from-plain (a ∷ s) u t h = go (eqb a lineFeed) (from-plain s (u ++ (a ∷ [])) t) h
   where
-    go : (q : Bool) → (has 10 s ≡ false → linesFrom (u ++ (a ∷ [])) (s ++ t) ≡ linesFrom (u ++ (a ∷ []) ++ s) t) → (q || has 10 s) ≡ false
+    go : (q : Bool) → (has lineFeed s ≡ false → linesFrom (u ++ (a ∷ [])) (s ++ t) ≡ linesFrom (u ++ (a ∷ []) ++ s) t) → (q || has lineFeed s) ≡ false
         → cond q (u ∷ linesFrom [] (s ++ t)) (linesFrom (u ++ (a ∷ [])) (s ++ t)) ≡ linesFrom (u ++ (a ∷ s)) t
     go true i h = absurd (true≢false h)
     go false i h = i h ∙ ap (λ (v : List ℕ). linesFrom v t) (append-snoc u a s)
 
 -- a first line that has its line feed
-from-line : (s u t : List ℕ) → has 10 s ≡ true → linesFrom u (s ++ t) ≡ (u ++ cut 10 s .0) ∷ linesFrom [] (cut 10 s .1 ++ t)
+from-line : (s u t : List ℕ) → has lineFeed s ≡ true → linesFrom u (s ++ t) ≡ (u ++ cut lineFeed s .0) ∷ linesFrom [] (cut lineFeed s .1 ++ t)
 from-line [] u t h = absurd (false≢true h)
-from-line (a ∷ s) u t h = go (eqb a 10) (from-line s (u ++ (a ∷ [])) t) h
+from-line (a ∷ s) u t h = go (eqb a lineFeed) (from-line s (u ++ (a ∷ [])) t) h
   where
-    go : (q : Bool) → (has 10 s ≡ true → linesFrom (u ++ (a ∷ [])) (s ++ t) ≡ (u ++ (a ∷ []) ++ cut 10 s .0) ∷ linesFrom [] (cut 10 s .1 ++ t)) → (q || has 10 s) ≡ true
+    go : (q : Bool) → (has lineFeed s ≡ true → linesFrom (u ++ (a ∷ [])) (s ++ t) ≡ (u ++ (a ∷ []) ++ cut lineFeed s .0) ∷ linesFrom [] (cut lineFeed s .1 ++ t)) → (q || has lineFeed s) ≡ true
         → cond q (u ∷ linesFrom [] (s ++ t)) (linesFrom (u ++ (a ∷ [])) (s ++ t))
-        ≡ (u ++ cutByte q a s (cut 10 s) .0) ∷ linesFrom [] (cutByte q a s (cut 10 s) .1 ++ t)
+        ≡ (u ++ cutByte q a s (cut lineFeed s) .0) ∷ linesFrom [] (cutByte q a s (cut lineFeed s) .1 ++ t)
     go true i h = ap (λ (v : List ℕ). v ∷ linesFrom [] (s ++ t)) (sym (append-nil u))
-    go false i h = i h ∙ ap (λ (v : List ℕ). v ∷ linesFrom [] (cut 10 s .1 ++ t)) (append-snoc u a (cut 10 s .0))
+    go false i h = i h ∙ ap (λ (v : List ℕ). v ∷ linesFrom [] (cut lineFeed s .1 ++ t)) (append-snoc u a (cut lineFeed s .0))
 
 -- ---- a line is judged by its first `mostKept` bytes
 
@@ -62,7 +62,7 @@ same-last n (a ∷ u) (b ∷ v) e = ap (λ (x : Answer). rowText n x ++ []) (sam
 same-from : (s : List ℕ) (n : ℕ) (u v : List ℕ) → take mostKept u ≡ take mostKept v → rowsFrom n (linesFrom u s) ≡ rowsFrom n (linesFrom v s)
 same-from [] n u v e = same-last n u v e
 same-from (a ∷ s) n u v e =
-    go (eqb a 10)
+    go (eqb a lineFeed)
     (same-from s n (u ++ (a ∷ [])) (v ++ (a ∷ [])) (sym (take-cut mostKept u (a ∷ [])) ∙ ap (λ (w : List ℕ). take mostKept (w ++ (a ∷ []))) e ∙ take-cut mostKept v (a ∷ [])))
   where
     go : (q : Bool) → rowsFrom n (linesFrom (u ++ (a ∷ [])) s) ≡ rowsFrom n (linesFrom (v ++ (a ∷ [])) s)
@@ -75,14 +75,14 @@ from-cut n u s = same-from s n (take mostKept u) u (take-take mostKept mostKept 
 
 -- ---- the bytes that a state stands for hold no line feed
 
-pub held-free : (d : List ℕ) (kept : ℕ) → has 10 (heldOf d kept) ≡ false
+pub held-free : (d : List ℕ) (kept : ℕ) → has lineFeed (heldOf d kept) ≡ false
 unfolding heldOf
-held-free d kept = cut-free 10 (take kept d)
+held-free d kept = cut-free lineFeed (take kept d)
 
 -- what was kept is what the state then stands for
-held-back : (d u : List ℕ) → has 10 u ≡ false → heldOf (over d 0 u) (length u) ≡ u
+held-back : (d u : List ℕ) → has lineFeed u ≡ false → heldOf (over d 0 u) (length u) ≡ u
 unfolding heldOf
-held-back d u h = ap (λ (v : List ℕ). cut 10 v .0) (over-back d u 0 (omega arith)) ∙ cut-whole 10 u h
+held-back d u h = ap (λ (v : List ℕ). cut lineFeed v .0) (over-back d u 0 (omega arith)) ∙ cut-whole lineFeed u h
 
 -- ---- what a call's answer says
 
@@ -112,21 +112,21 @@ module _ (d : List ℕ) (kept n : ℕ) (p : List ℕ) (from : ℕ) (buffer : Lis
   rest = drop from p
 
   abbrev text : List ℕ
-  text = rowText n (lineAnswer (heldOf d kept ++ cut 10 rest .0))
+  text = rowText n (lineAnswer (heldOf d kept ++ cut lineFeed rest .0))
 
   record RowSays (place count line : ℕ) : Type 0 where
-    there : has 10 rest ≡ true
+    there : has lineFeed rest ≡ true
     array-is : array ≡ d
     wrote : take count (drop at left) ≡ text
-    place-is : place ≡ suc (from + find 10 rest)
+    place-is : place ≡ suc (from + find lineFeed rest)
     line-is : line ≡ nextLine n
 
   row-says : (place count line : ℕ) → nextFed d kept n p from buffer at ≡ fed (Row place (record { 0 = count }) line) array left → RowSays place count line
   unfolding nextFed place-of count-of line-of case-of
-  row-says place count line e = go (has 10 rest) refl (hasRoom (length buffer) at (length text)) refl (hasRoom (length buffer) at 0) e
+  row-says place count line e = go (has lineFeed rest) refl (hasRoom (length buffer) at (length text)) refl (hasRoom (length buffer) at 0) e
     where
-      go : (q : Bool) → has 10 rest ≡ q → (r : Bool) → hasRoom (length buffer) at (length text) ≡ r → (k : Bool)
-          → cond q (cond r (fed (Row (suc (from + find 10 rest)) (record { 0 = length text }) (nextLine n)) d (over buffer at text)) (fed NoRoom d buffer)) (cond k (fed (UsedUp (length (take mostKept (heldOf d kept ++ rest)))) (over d 0 (take mostKept (heldOf d kept ++ rest))) buffer) (fed NoRoom d buffer))
+      go : (q : Bool) → has lineFeed rest ≡ q → (r : Bool) → hasRoom (length buffer) at (length text) ≡ r → (k : Bool)
+          → cond q (cond r (fed (Row (suc (from + find lineFeed rest)) (record { 0 = length text }) (nextLine n)) d (over buffer at text)) (fed NoRoom d buffer)) (cond k (fed (UsedUp (length (take mostKept (heldOf d kept ++ rest)))) (over d 0 (take mostKept (heldOf d kept ++ rest))) buffer) (fed NoRoom d buffer))
           ≡ fed (Row place (record { 0 = count }) line) array left
           → RowSays place count line
       go true h true t k e =
@@ -145,10 +145,10 @@ module _ (d : List ℕ) (kept n : ℕ) (p : List ℕ) (from : ℕ) (buffer : Lis
 
   full-says : nextFed d kept n p from buffer at ≡ fed NoRoom array left → array ≡ d
   unfolding nextFed case-of
-  full-says e = go (has 10 rest) (hasRoom (length buffer) at (length text)) (hasRoom (length buffer) at 0) e
+  full-says e = go (has lineFeed rest) (hasRoom (length buffer) at (length text)) (hasRoom (length buffer) at 0) e
     where
       go : (q r k : Bool)
-          → cond q (cond r (fed (Row (suc (from + find 10 rest)) (record { 0 = length text }) (nextLine n)) d (over buffer at text)) (fed NoRoom d buffer)) (cond k (fed (UsedUp (length (take mostKept (heldOf d kept ++ rest)))) (over d 0 (take mostKept (heldOf d kept ++ rest))) buffer) (fed NoRoom d buffer))
+          → cond q (cond r (fed (Row (suc (from + find lineFeed rest)) (record { 0 = length text }) (nextLine n)) d (over buffer at text)) (fed NoRoom d buffer)) (cond k (fed (UsedUp (length (take mostKept (heldOf d kept ++ rest)))) (over d 0 (take mostKept (heldOf d kept ++ rest))) buffer) (fed NoRoom d buffer))
           ≡ fed NoRoom array left
           → array ≡ d
       go true true k e = let z : _≡_ {A = ℕ} 0 2 = ap (λ (x : Fed). case-of (x .listed)) e in absurd (omega arith)
@@ -157,16 +157,16 @@ module _ (d : List ℕ) (kept n : ℕ) (p : List ℕ) (from : ℕ) (buffer : Lis
       go false r false e = sym (ap (λ (x : Fed). x .array) e)
 
   record UsedSays (more : ℕ) : Type 0 where
-    none : has 10 rest ≡ false
+    none : has lineFeed rest ≡ false
     more-is : more ≡ length (take mostKept (heldOf d kept ++ rest))
     array-is : array ≡ over d 0 (take mostKept (heldOf d kept ++ rest))
 
   used-says : (more : ℕ) → nextFed d kept n p from buffer at ≡ fed (UsedUp more) array left → UsedSays more
   unfolding nextFed place-of case-of
-  used-says more e = go (has 10 rest) refl (hasRoom (length buffer) at (length text)) (hasRoom (length buffer) at 0) e
+  used-says more e = go (has lineFeed rest) refl (hasRoom (length buffer) at (length text)) (hasRoom (length buffer) at 0) e
     where
-      go : (q : Bool) → has 10 rest ≡ q → (r k : Bool)
-          → cond q (cond r (fed (Row (suc (from + find 10 rest)) (record { 0 = length text }) (nextLine n)) d (over buffer at text)) (fed NoRoom d buffer)) (cond k (fed (UsedUp (length (take mostKept (heldOf d kept ++ rest)))) (over d 0 (take mostKept (heldOf d kept ++ rest))) buffer) (fed NoRoom d buffer))
+      go : (q : Bool) → has lineFeed rest ≡ q → (r k : Bool)
+          → cond q (cond r (fed (Row (suc (from + find lineFeed rest)) (record { 0 = length text }) (nextLine n)) d (over buffer at text)) (fed NoRoom d buffer)) (cond k (fed (UsedUp (length (take mostKept (heldOf d kept ++ rest)))) (over d 0 (take mostKept (heldOf d kept ++ rest))) buffer) (fed NoRoom d buffer))
           ≡ fed (UsedUp more) array left
           → UsedSays more
       go true h true k e = let z : _≡_ {A = ℕ} 0 1 = ap (λ (x : Fed). case-of (x .listed)) e in absurd (omega arith)
@@ -198,8 +198,8 @@ run-left (row {d} {kept} {n} {from} {p} {ps} buffer at {place} {count} {line} {a
     let q = row-says d kept n p from buffer at array left place count line e in
     let s = drop from p in
     let i = run-left r (ap length (q .array-is) ∙ h) in
-    let more : rest ≡ rowsFrom (nextLine n) (linesFrom [] (cut 10 s .1 ++ concat ps)) =
-    i ∙ ap (λ (u : List ℕ). rowsFrom line (linesFrom u (drop place p ++ concat ps))) (held-none array) ∙ (λ j. rowsFrom (q .line-is j) (linesFrom [] (cut-past 10 p from place (q .place-is) j ++ concat ps))) in
+    let more : rest ≡ rowsFrom (nextLine n) (linesFrom [] (cut lineFeed s .1 ++ concat ps)) =
+    i ∙ ap (λ (u : List ℕ). rowsFrom line (linesFrom u (drop place p ++ concat ps))) (held-none array) ∙ (λ j. rowsFrom (q .line-is j) (linesFrom [] (cut-past lineFeed p from place (q .place-is) j ++ concat ps))) in
     (λ j. q .wrote j ++ more j) ∙ ap (rowsFrom n) (sym (from-line s (heldOf d kept) (concat ps) (q .there)))
 run-left (full {d} {kept} {n} {from} {p} {ps} buffer at {array} {left} {rest} e r) h =
     let q = full-says d kept n p from buffer at array left e in
@@ -208,7 +208,7 @@ run-left (used {d} {kept} {n} {from} {p} {ps} buffer at {more} {array} {left} {r
     let q = used-says d kept n p from buffer at array left more e in
     let s = drop from p in
     let u = take mostKept (heldOf d kept ++ s) in
-    let free : has 10 u ≡ false = take-free 10 mostKept (heldOf d kept ++ s) (has-append 10 (heldOf d kept) s (held-free d kept) (q .none)) in
+    let free : has lineFeed u ≡ false = take-free lineFeed mostKept (heldOf d kept ++ s) (has-append lineFeed (heldOf d kept) s (held-free d kept) (q .none)) in
     let l : length array ≡ mostKept = ap length (q .array-is) ∙ length-over d 0 u (omega (arith, length-take mostKept (heldOf d kept ++ s))) ∙ h in
     let now : heldOf array more ≡ u = (λ i. heldOf (q .array-is i) (q .more-is i)) ∙ held-back d u free in
     run-left r l
@@ -228,25 +228,25 @@ module _ (d : List ℕ) (kept n : ℕ) (p : List ℕ) (from : ℕ) where
 
   -- a buffer that just holds the row
   abbrev row-of : List ℕ
-  row-of = rowText n (lineAnswer (heldOf d kept ++ cut 10 rest-of .0))
+  row-of = rowText n (lineAnswer (heldOf d kept ++ cut lineFeed rest-of .0))
 
-  next-row : has 10 rest-of ≡ true
-      → nextFed d kept n p from row-of 0 ≡ fed (Row (suc (from + find 10 rest-of)) (record { 0 = length row-of }) (nextLine n)) d (over row-of 0 row-of)
+  next-row : has lineFeed rest-of ≡ true
+      → nextFed d kept n p from row-of 0 ≡ fed (Row (suc (from + find lineFeed rest-of)) (record { 0 = length row-of }) (nextLine n)) d (over row-of 0 row-of)
   unfolding nextFed
   next-row h = rw (h, le-leb (0 + length row-of) (length row-of) (omega arith))
 
-  next-used : has 10 rest-of ≡ false → nextFed d kept n p from [] 0
+  next-used : has lineFeed rest-of ≡ false → nextFed d kept n p from [] 0
       ≡ fed (UsedUp (length (take mostKept (heldOf d kept ++ rest-of)))) (over d 0 (take mostKept (heldOf d kept ++ rest-of))) []
   unfolding nextFed
   next-used h = rw h
 
-  run-step : (ps : List (List ℕ)) → (from + find 10 rest-of < length p → Runs d 0 (nextLine n) (suc (from + find 10 rest-of)) (p ∷ ps)) → ((d₁ : List ℕ) (kept₁ : ℕ) → Runs d₁ kept₁ n 0 ps)
+  run-step : (ps : List (List ℕ)) → (from + find lineFeed rest-of < length p → Runs d 0 (nextLine n) (suc (from + find lineFeed rest-of)) (p ∷ ps)) → ((d₁ : List ℕ) (kept₁ : ℕ) → Runs d₁ kept₁ n 0 ps)
       → Runs d kept n from (p ∷ ps)
-  run-step ps f g = go (has 10 rest-of) refl
+  run-step ps f g = go (has lineFeed rest-of) refl
     where
-      go : (q : Bool) → has 10 rest-of ≡ q → Runs d kept n from (p ∷ ps)
+      go : (q : Bool) → has lineFeed rest-of ≡ q → Runs d kept n from (p ∷ ps)
       go true h =
-          let r = f (omega (arith, find-inside 10 rest-of h, length-drop from p)) in
+          let r = f (omega (arith, find-inside lineFeed rest-of h, length-drop from p)) in
           (take (length row-of) (drop 0 (over row-of 0 row-of)) ++ r .0, row row-of 0 (next-row h) (r .1))
       go false h =
           let r = g (over d 0 (take mostKept (heldOf d kept ++ rest-of))) (length (take mostKept (heldOf d kept ++ rest-of))) in
@@ -256,7 +256,7 @@ run-part : (k : ℕ) (d : List ℕ) (kept n from : ℕ) (p : List ℕ) (ps : Lis
     → Runs d kept n from (p ∷ ps)
 run-part zero d kept n from p ps h g = run-step d kept n p from ps (λ l. absurd (omega arith)) (λ d₁ kept₁. g d₁ kept₁ n)
 run-part (suc k) d kept n from p ps h g =
-    run-step d kept n p from ps (λ l. run-part k d 0 (nextLine n) (suc (from + find 10 (drop from p))) p ps (omega arith) g) (λ d₁ kept₁. g d₁ kept₁ n)
+    run-step d kept n p from ps (λ l. run-part k d 0 (nextLine n) (suc (from + find lineFeed (drop from p))) p ps (omega arith) g) (λ d₁ kept₁. g d₁ kept₁ n)
 
 end-is : (d : List ℕ) (kept n : ℕ)
     → let t = rowsFrom n (lastLine (heldOf d kept)) in

@@ -6,7 +6,7 @@ use mathlib.Core.Bool.{cond}
 use mathlib.Core.List.{List, [], _∷_, _++_}
 use mathlib.Core.Path.{_≡_}
 use lib.ListN.{length, take, drop}
-use Rattle.text.specs.Text.{has, find, cut, concat}
+use Rattle.text.specs.Text.{lineFeed, has, find, cut, concat}
 use Rattle.text.specs.Place.{Outcome, outcome, hasRoom, over, put}
 use Rattle.accounts.specs.Lines.{lastLine, lineAnswer}
 use Rattle.accounts.specs.Listing.{rowText, rowsFrom, nextLine}
@@ -20,7 +20,7 @@ mostKept = 513
 -- the bytes of the unfinished line that a state stands for: those kept, up to the first line feed among them. States that the calls make
 -- keep no line feed; cutting there gives a state made by hand a meaning too
 unfoldable pub heldOf : List ℕ → ℕ → List ℕ
-heldOf d kept = cut 10 (take kept d) .0
+heldOf d kept = cut lineFeed (take kept d) .0
 
 -- ---- what a call gives
 
@@ -54,8 +54,8 @@ usedFed u d buffer at =
 unfoldable pub nextFed : List ℕ → ℕ → ℕ → List ℕ → ℕ → List ℕ → ℕ → Fed
 nextFed d kept n part from buffer at =
     let s = drop from part in
-    cond (has 10 s)
-    (rowFed n (rowText n (lineAnswer (heldOf d kept ++ cut 10 s .0))) (suc (from + find 10 s)) d buffer at)
+    cond (has lineFeed s)
+    (rowFed n (rowText n (lineAnswer (heldOf d kept ++ cut lineFeed s .0))) (suc (from + find lineFeed s)) d buffer at)
     (usedFed (heldOf d kept ++ s) d buffer at)
 
 -- the row of the last line at the end of the input, where it has any byte

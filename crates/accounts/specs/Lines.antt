@@ -5,7 +5,7 @@ use mathlib.Core.Bool.{not, cond, _&&_}
 use mathlib.Core.List.{List, [], _∷_, _++_}
 use lib.Dec.{ltb, eqb}
 use lib.ListN.{length}
-use Rattle.text.specs.Text.{has, cut}
+use Rattle.text.specs.Text.{tab, lineFeed, has, cut}
 use Rattle.text.specs.Rows.{Row, row, firstOf}
 use Rattle.grammar.specs.Rules.{isName}
 use Rattle.profile.specs.Limits.{editionTwo}
@@ -22,7 +22,7 @@ lastLine (a ∷ u) = (a ∷ u) ∷ []
 -- the lines of a text whose first line has begun with the bytes u: a line ends at a line feed
 abbrev pub linesFrom : List ℕ → List ℕ → List (List ℕ)
 linesFrom u [] = lastLine u
-linesFrom u (a ∷ s) = cond (eqb a 10) (u ∷ linesFrom [] s) (linesFrom (u ++ (a ∷ [])) s)
+linesFrom u (a ∷ s) = cond (eqb a lineFeed) (u ∷ linesFrom [] s) (linesFrom (u ++ (a ∷ [])) s)
 
 unfoldable pub lines : List ℕ → List (List ℕ)
 lines s = linesFrom [] s
@@ -31,10 +31,10 @@ lines s = linesFrom [] s
 
 -- name, tab, string: the string is all after the line's first tab
 abbrev pub nameOf : List ℕ → List ℕ
-nameOf l = cut 9 l .0
+nameOf l = cut tab l .0
 
 abbrev pub stringOf : List ℕ → List ℕ
-stringOf l = cut 9 l .1
+stringOf l = cut tab l .1
 
 -- in bytes, without its line feed
 abbrev pub longestLine : ℕ
@@ -43,7 +43,7 @@ longestLine = 512
 abbrev pub lineRows : List ℕ → List Row
 lineRows l =
     row 18 (ltb longestLine (length l))
-    ∷ row 19 (not (has 9 l && isName (nameOf l)))
+    ∷ row 19 (not (has tab l && isName (nameOf l)))
     ∷ []
 
 unfoldable pub lineRefusal : List ℕ → ℕ

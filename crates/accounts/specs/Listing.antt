@@ -4,25 +4,25 @@ use Prim.Native.Nat.{ℕ, suc, _-_, _^_}
 use mathlib.Core.Bool.{cond}
 use mathlib.Core.List.{List, [], _∷_, _++_}
 use lib.Dec.{eqb, ltb}
-use Rattle.text.specs.Text.{text}
+use Rattle.text.specs.Text.{text, tab, lineFeed}
 use Rattle.decimal.specs.Decimal.{digits}
 use Rattle.accounts.specs.Lines.{lines, lineAnswer}
 use Rattle.accounts.specs.declared.line.Answer.{Answer}
 
 -- line, answer, kind, parted by tabs
 abbrev pub header : List ℕ
-header = text "line" ++ (9 ∷ (text "answer" ++ (9 ∷ (text "kind" ++ (10 ∷ [])))))
+header = text "line" ++ (tab ∷ (text "answer" ++ (tab ∷ (text "kind" ++ (lineFeed ∷ [])))))
 
 -- the name of a kind; `-` for kind 0, a refused line. Free answer: `-` for a kind past 3 too, which only an answer made by hand has
 abbrev pub kindText : ℕ → List ℕ
 kindText k = cond (eqb k 1) (text "parameters") (cond (eqb k 2) (text "salt") (cond (eqb k 3) (text "hash") (text "-")))
 
 abbrev pub kindLine : ℕ → List ℕ
-kindLine k = kindText k ++ (10 ∷ [])
+kindLine k = kindText k ++ (lineFeed ∷ [])
 
 -- the number of a line, its answer and its kind
 unfoldable pub rowText : ℕ → Answer → List ℕ
-rowText n a = digits n ++ (9 ∷ []) ++ digits (a .number) ++ (9 ∷ []) ++ kindLine (a .kind)
+rowText n a = digits n ++ (tab ∷ []) ++ digits (a .number) ++ (tab ∷ []) ++ kindLine (a .kind)
 
 abbrev pub largestLineNumber : ℕ
 largestLineNumber = 2 ^ 64 - 1

@@ -2,4 +2,5 @@
 pub mod limits;
 pub mod line;
 pub mod listing;
+pub mod numbers;
 pub mod row;

@@ -3,6 +3,7 @@ use crate::limits::LONGEST_LINE;
 use crate::limits::MOST_KEPT;
 use crate::line::Answer;
 use crate::line::judge;
+use crate::numbers::LINE_TOO_LONG;
 use crate::row::write_row;
 use text::place::Written;
 use text::place::write_text;
@@ -84,13 +85,13 @@ fn judge_joined(begun: &[u8], more: &[u8]) -> Answer
     }
     if LONGEST_LINE < begun.len() {
         return Answer {
-            number: 18,
+            number: LINE_TOO_LONG,
             kind: 0,
         };
     }
     if LONGEST_LINE - begun.len() < more.len() {
         return Answer {
-            number: 18,
+            number: LINE_TOO_LONG,
             kind: 0,
         };
     }

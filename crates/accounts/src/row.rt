@@ -2,6 +2,7 @@
 use crate::line::Answer;
 use decimal::writer::unsigned_len;
 use decimal::writer::write_unsigned;
+use text::numbers::NO_ROOM;
 use text::place::Written;
 use text::place::has_room;
 use text::place::write_text;
@@ -74,7 +75,7 @@ pub fn write_row(line: u64, answer: Answer, buf: &mut [u8], at: usize) -> Writte
     let count = row_len(line, answer);
     if !has_room(buf.len(), at, count) {
         return Written {
-            number: 17,
+            number: NO_ROOM,
             count: Chars(0),
         };
     }

@@ -1,8 +1,10 @@
 // From B64 characters to bytes, into a lent buffer.
 use crate::alphabet::SEXTETS;
 use crate::lengths::decoded_len;
+use crate::numbers::NOT_CANONICAL;
 use crate::sextets::is_canonical_by;
 use crate::sextets::sextet_of;
+use text::numbers::NO_ROOM;
 use text::place::Decoded;
 use text::place::has_room;
 use text::units::Bytes;
@@ -73,12 +75,12 @@ pub fn decode(text: &[u8], buf: &mut [u8], at: usize) -> Decoded
             return Decoded { number: 0, count };
         }
         return Decoded {
-            number: 17,
+            number: NO_ROOM,
             count: Bytes(0),
         };
     }
     Decoded {
-        number: 12,
+        number: NOT_CANONICAL,
         count: Bytes(0),
     }
 }

@@ -2,6 +2,7 @@
 use crate::lengths::encoded_len;
 use crate::letters::LETTERS;
 use crate::letters::letter_of;
+use text::numbers::NO_ROOM;
 use text::place::Written;
 use text::place::has_room;
 use text::units::Bytes;
@@ -77,7 +78,7 @@ pub fn encode(bytes: &[u8], buf: &mut [u8], at: usize) -> Written
         return Written { number: 0, count };
     }
     Written {
-        number: 17,
+        number: NO_ROOM,
         count: Chars(0),
     }
 }

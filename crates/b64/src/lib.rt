@@ -6,4 +6,5 @@ pub mod encoder;
 pub mod groups;
 pub mod lengths;
 mod letters;
+pub mod numbers;
 mod sextets;

@@ -1,5 +1,6 @@
 // Texts read as decimals: `0`, or a digit 1 to 9 and any further digits, or a minus sign before such a number other than 0.
 use crate::digits::all_digits;
+use crate::numbers::NOT_DECIMAL;
 use crate::signs::complement;
 ghost use Prim.Native.Nat.{_-_, _≤_, _<_};
 ghost use lib.IntN.{pos, negℤ};
@@ -158,11 +159,11 @@ pub fn read_decimal(text: &[u8]) -> Decimal
 {
     match read_signed(text) {
         Signed::Malformed => Decimal {
-            number: 11,
+            number: NOT_DECIMAL,
             value: 0,
         },
         Signed::Outside => Decimal {
-            number: 11,
+            number: NOT_DECIMAL,
             value: 0,
         },
         Signed::Number(value) => Decimal { number: 0, value },

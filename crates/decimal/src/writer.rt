@@ -1,5 +1,6 @@
 // The one text of a number, and its length.
 use crate::signs::complement;
+use text::numbers::NO_ROOM;
 use text::place::Written;
 use text::place::has_room;
 use text::units::Chars;
@@ -67,7 +68,7 @@ pub fn write_unsigned(value: u64, buf: &mut [u8], at: usize) -> Written
     let count = unsigned_len(value);
     if !has_room(buf.len(), at, count.0) {
         return Written {
-            number: 17,
+            number: NO_ROOM,
             count: Chars(0),
         };
     }
@@ -108,7 +109,7 @@ pub fn write_decimal(value: i64, buf: &mut [u8], at: usize) -> Written
     let count = decimal_len(value);
     if !has_room(buf.len(), at, count.0) {
         return Written {
-            number: 17,
+            number: NO_ROOM,
             count: Chars(0),
         };
     }

@@ -1,7 +1,7 @@
 -- The steps of the walk, one after the other: what each leaf finds makes up what the whole finds.
 -- Assumes nothing.
 use Prim.Native.Nat.{ℕ, suc, _+_, _-_, _*_, _/_, _≤_, _<_}
-use mathlib.Core.Path.{_≡_, refl}
+use mathlib.Core.Path.{_≡_, refl, sym, ap}
 use mathlib.Core.Bool.{true, false, not}
 use mathlib.Core.List.{List, [], _∷_}
 use mathlib.Core.Option.{Option, none, some}
@@ -12,6 +12,10 @@ use borrow.Author.Tests.{le-leb, lt-leb, ne-eqb}
 use Rattle.text.specs.Text.{text, find, nextAt, startsWith, andThen}
 use Rattle.text.proofs.Tests.{is-true, is-false}
 use Rattle.text.proofs.Prefixes.{rest-at}
+use Rattle.decimal.specs.declared.reader.Limited.{Limited}
+use Rattle.decimal.specs.declared.reader.Limited.the-variants.{Malformed, Outside, Value}
+use Rattle.grammar.specs.Bytes.{dollar}
+use Rattle.grammar.specs.Rules.{versionReading, isVersion}
 use Rattle.profile.specs.Limits.{Profile, inRange, idOf, profileOf}
 use Rattle.profile.specs.Fields.{leftOut}
 use Rattle.profile.specs.declared.limits.NumberRule.{NumberRule}
@@ -56,16 +60,32 @@ module _ (r : BytesRule) (name : List ℕ) (separator : ℕ) (s : List ℕ) (at 
 
 -- ---- the version
 
+module _ (vs s : List ℕ) (at end : ℕ) (q : end ≡ nextAt dollar s (at + 1)) (r : Limited) (w : r ≡ versionReading (take (end - (at + 1)) (drop (at + 1) s)))
+    (e : startsWith (text "$v=") (drop at s) ≡ true) where
+  -- the piece of the walk is the one that was read
+  piece-is : versionReading (take (find dollar (drop 1 (drop at s))) (drop 1 (drop at s))) ≡ r
+  piece-is =
+      let n : end - (at + 1) ≡ find dollar (drop (at + 1) s) = omega (arith, q) in
+      rw (drop-drop 1 at s, ← n) (sym w)
+
+  rest-is : drop (find dollar (drop 1 (drop at s))) (drop 1 (drop at s)) ≡ drop end s
+  rest-is =
+      let n : at + 1 + find dollar (drop (at + 1) s) ≡ end = omega (arith, q) in
+      rw (drop-drop 1 at s, drop-drop (find dollar (drop (at + 1) s)) (at + 1) s) (ap (λ (k : ℕ). drop k s) n)
+
+  pub version-malformed : r ≡ Malformed → versionIn vs (drop at s) ≡ none
+  unfolding versionIn isVersion
+  version-malformed v = rw (e, piece-is, v)
+
+  pub version-outside : r ≡ Outside → versionIn vs (drop at s) ≡ none
+  unfolding versionIn isVersion
+  version-outside v = rw (e, piece-is, v)
+
+  pub version-there : (n : ℕ) → r ≡ Value n → versionIn vs (drop at s) ≡ allowed vs (Number n) (drop end s)
+  unfolding versionIn isVersion
+  version-there n v = rw (e, piece-is, v) (ap (allowed vs (Number n)) rest-is)
+
 module _ (vs s : List ℕ) (at : ℕ) where
-  pub version-none : startsWith (text "$v=") (drop at s) ≡ true → numeralIn (drop (at + 3) s) ≡ none → versionIn vs (drop at s) ≡ none
-  unfolding versionIn
-  version-none e q = rw (e, drop-drop 3 at s, q)
-
-  pub version-there : startsWith (text "$v=") (drop at s) ≡ true → (n : ℕ) (t : List ℕ) → numeralIn (drop (at + 3) s) ≡ some (n, t)
-      → versionIn vs (drop at s) ≡ allowed vs (Number n) t
-  unfolding versionIn
-  version-there e n t q = rw (e, drop-drop 3 at s, q)
-
   pub version-absent : startsWith (text "$v=") (drop at s) ≡ false → versionIn vs (drop at s) ≡ allowed vs Absent (drop at s)
   unfolding versionIn
   version-absent e = rw e

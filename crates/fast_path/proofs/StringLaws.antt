@@ -16,6 +16,7 @@ use Rattle.text.proofs.Tests.{from-within}
 use Rattle.text.proofs.Table.{always}
 use Rattle.text.proofs.Over.{over-nil, length-over, over-after}
 use Rattle.text.proofs.Runs.{run-length}
+use Rattle.text.proofs.Starts.{starts-first}
 use Rattle.text.proofs.Lists.{length-empty, length-filled}
 use Rattle.b64.specs.B64.{inAlphabet, canonical}
 use Rattle.profile.specs.Limits.{Profile, isSize, nobody, profileOf, editionTwo}
@@ -129,6 +130,16 @@ module _ (a : BytesRule) (a-name : List ℕ) (b : BytesRule) (b-name : List ℕ)
           end-is = y .end-is;
           stored = over-after out₀ out₁ out₂ from middle (x .bytes) (y .bytes) h (x .stored) (x .end-is) (y .stored);
         }
+
+-- neither stands there
+pub no-strings : (a : BytesRule) (a-name : List ℕ) (b : BytesRule) (b-name : List ℕ) (separator : ℕ) (s : List ℕ) (at : ℕ) (out : List ℕ) (from : ℕ)
+    → at ≤ length s → from ≤ length out → startsWith (separator ∷ []) (drop at s) ≡ false
+    → StoredTwo (pairIn a a-name b b-name false separator (drop at s)) (most a + most b) s out from out at from from
+no-strings a a-name b b-name separator s at out from h f e =
+    both-strings a a-name b b-name false separator s at out from out at from separator
+    (bytes-none a a-name separator s at out from h (starts-first separator a-name (drop at s) e))
+    separator refl f out at from separator
+    (bytes-none b b-name separator s at out from h (starts-first separator b-name (drop at s) e))
 
 -- ---- all four
 

@@ -89,7 +89,7 @@ module _ (e : List Profile) (f : FieldSet) (E : Entry e (f .numbers .id) (here e
   version-read : versionIn (here e f .versions) (restText (here e f) f) ≡ some (taken (f .numbers .version) 36 (items 36 five hashes))
   version-read =
       version-reads (here e f .versions) (f .numbers .version) (items 36 five hashes) (E .versions) (P .column .version)
-      (closed-items 36 five hashes dollar behind-items) (starts-fresh 36 36 (text "v=") five hashes behind-items refl)
+      (begins-items (λ c. c ≡ 36) 36 five hashes refl (begins-hashes (λ c. c ≡ 36) refl)) (starts-fresh 36 36 (text "v=") five hashes behind-items refl)
 
   numbers-read : numbersIn (here e f) (f .numbers .id) (f .numbers .version) (items 36 five hashes) ≡ some (taken (f .numbers) next (items next keys hashes))
   unfolding numbersIn

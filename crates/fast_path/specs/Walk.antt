@@ -11,13 +11,15 @@ use lib.ListN.{length, take, drop}
 use Rattle.text.specs.Text.{text, empty, find, run, startsWith, andThen}
 use Rattle.b64.specs.B64.{inAlphabet, canonical, decode}
 use Rattle.decimal.specs.Decimal.{isDigit, isUnsigned, value}
+use Rattle.grammar.specs.Bytes.{dollar, comma}
+use Rattle.grammar.specs.Rules.{isVersion}
 use Rattle.profile.specs.Limits.{Profile, inRange, isSize, versionAllowed, idOf, profileOf, largest32}
-use Rattle.profile.specs.Fields.{FieldSet, fieldSet, misplacedNumber, given, leftOut}
+use Rattle.profile.specs.Fields.{FieldSet, fieldSet, misplacedNumber, given, leftOut, readVersion}
 use Rattle.profile.specs.Reader.{answer, fieldsOf}
 use Rattle.profile.specs.declared.limits.NumberRule.{NumberRule}
 use Rattle.profile.specs.declared.limits.BytesRule.{BytesRule}
 use Rattle.profile.specs.declared.fields.Version.{Version}
-use Rattle.profile.specs.declared.fields.Version.the-variants.{Absent, Number}
+use Rattle.profile.specs.declared.fields.Version.the-variants.{Absent}
 use Rattle.profile.specs.declared.fields.Fields.{Fields}
 
 -- what was taken, the separator that stands before the next item, `$` before the first and a comma before the others, and the text after it
@@ -37,7 +39,7 @@ numeralIn t = let d = run isDigit t in cond (isUnsigned d && leb (value d) large
 
 -- a number that is in range and not to be left out
 abbrev pub writtenNumber : NumberRule → ℕ × List ℕ → Option (Taken ℕ)
-writtenNumber r x = cond (inRange r (x .0) && not (leftOut r (x .0))) (some (taken (x .0) 44 (x .1))) none
+writtenNumber r x = cond (inRange r (x .0) && not (leftOut r (x .0))) (some (taken (x .0) comma (x .1))) none
 
 -- a number that doesn't stand in the string
 abbrev pub unwritten : NumberRule → ℕ → List ℕ → Option (Taken ℕ)
@@ -54,7 +56,7 @@ numberIn r name separator t =
 abbrev pub writtenBytes : BytesRule → List ℕ → Option (Taken (List ℕ))
 writtenBytes r t =
     let u = run inAlphabet t in
-    cond (canonical u && (not (empty (decode u)) && isSize r (length (decode u)))) (some (taken (decode u) 44 (drop (length u) t))) none
+    cond (canonical u && (not (empty (decode u)) && isSize r (length (decode u)))) (some (taken (decode u) comma (drop (length u) t))) none
 
 -- a byte string after its separator and its name, or none
 unfoldable pub bytesIn : BytesRule → List ℕ → ℕ → List ℕ → Option (Taken (List ℕ))
@@ -64,17 +66,22 @@ bytesIn r name separator t =
 -- ---- the version
 
 abbrev pub allowed : List ℕ → Version → List ℕ → Option (Taken Version)
-allowed vs v t = cond (versionAllowed vs v) (some (taken v 36 t)) none
+allowed vs v t = cond (versionAllowed vs v) (some (taken v dollar t)) none
 
+-- the version piece goes up to the next `$`
 unfoldable pub versionIn : List ℕ → List ℕ → Option (Taken Version)
 versionIn vs t =
-    cond (startsWith (text "$v=") t) (andThen (numeralIn (drop 3 t)) (λ (x : ℕ × List ℕ). allowed vs (Number (x .0)) (x .1))) (allowed vs Absent t)
+    let u = drop 1 t in
+    let piece = take (find dollar u) u in
+    cond (startsWith (text "$v=") t)
+    (cond (isVersion piece) (allowed vs (readVersion (some piece)) (drop (find dollar u) u)) none)
+    (allowed vs Absent t)
 
 -- ---- m, t and p, and m at least 8p
 
 unfoldable pub numbersIn : Profile → ℕ → Version → List ℕ → Option (Taken Fields)
 numbersIn r k v s =
-    andThen (numberIn (r .m) (text "m=") 36 s) (λ (m : Taken ℕ).
+    andThen (numberIn (r .m) (text "m=") dollar s) (λ (m : Taken ℕ).
     andThen (numberIn (r .t) (text "t=") (m .separator) (m .rest)) (λ (t : Taken ℕ).
     andThen (numberIn (r .p) (text "p=") (t .separator) (t .rest)) (λ (p : Taken ℕ).
     cond (leb (8 * p .found) (m .found))
@@ -90,14 +97,14 @@ pub record Pair : Type 0 where
 unfoldable pub pairIn : BytesRule → List ℕ → BytesRule → List ℕ → Bool → ℕ → List ℕ → Option (Taken Pair)
 pairIn a a-name b b-name pieces separator s =
     andThen (bytesIn a a-name separator s) (λ (x : Taken (List ℕ)).
-    andThen (bytesIn b b-name (cond pieces 36 (x .separator)) (x .rest)) (λ (y : Taken (List ℕ)).
+    andThen (bytesIn b b-name (cond pieces dollar (x .separator)) (x .rest)) (λ (y : Taken (List ℕ)).
     some (taken (record { first = x .found; second = y .found }) (y .separator) (y .rest))))
 
 abbrev pub keysIn : Profile → ℕ → List ℕ → Option (Taken Pair)
 keysIn r separator s = pairIn (r .keyid) (text "keyid=") (r .ad) (text "data=") false separator s
 
 abbrev pub hashesIn : Profile → List ℕ → Option (Taken Pair)
-hashesIn r s = pairIn (r .salt) [] (r .output) [] true 36 s
+hashesIn r s = pairIn (r .salt) [] (r .output) [] true dollar s
 
 -- nothing is left after them
 abbrev pub withStrings : Profile → Taken Fields → Option FieldSet
@@ -119,8 +126,8 @@ afterId r k s = cond (r .known) (andThen (headIn r k s) (withStrings r)) none
 unfoldable pub walked : List Profile → List ℕ → Option FieldSet
 walked e s =
     let t = drop 1 s in
-    let k = idOf e (take (find 36 t) t) in
-    cond (startsWith (text "$") s) (afterId (profileOf e k) k (drop (find 36 t) t)) none
+    let k = idOf e (take (find dollar t) t) in
+    cond (startsWith (text "$") s) (afterId (profileOf e k) k (drop (find dollar t) t)) none
 
 -- the walk finds the fields of each accepted string, and nothing in any other
 abbrev pub WalkAgrees : List Profile → Type 0

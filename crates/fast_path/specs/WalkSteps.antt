@@ -12,6 +12,7 @@ use Rattle.text.specs.Place.{over, put}
 use Rattle.text.specs.Text.{run}
 use Rattle.b64.specs.B64.{inAlphabet, canonical, decode}
 use Rattle.decimal.specs.Decimal.{isDigit, value}
+use Rattle.grammar.specs.Bytes.{dollar}
 use Rattle.profile.specs.Limits.{Profile}
 use Rattle.profile.specs.Fields.{FieldSet}
 use Rattle.profile.specs.declared.limits.BytesRule.{BytesRule}
@@ -59,7 +60,7 @@ NumberIs o s (NumberItem·Is n next separator) = (o ≡ some (taken n separator 
 
 abbrev pub VersionIs : Option (Taken Version) → List ℕ → VersionItem → Type 0
 VersionIs o s VersionItem·No = o ≡ none
-VersionIs o s (VersionItem·Is v next) = (o ≡ some (taken v 36 (drop next s))) × (next ≤ length s)
+VersionIs o s (VersionItem·Is v next) = (o ≡ some (taken v dollar (drop next s))) × (next ≤ length s)
 
 abbrev pub HeadIs : Option (Taken Fields) → List ℕ → Head → Type 0
 HeadIs o s Head·No = o ≡ none

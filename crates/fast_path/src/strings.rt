@@ -1,12 +1,14 @@
 // Two byte strings, one after the other: keyid and data among the parameters, or salt and output.
+use crate::begin::begins;
 use crate::items::BytesItem;
 use crate::items::bytes_item;
 use profile::limits::BytesRule;
 ghost use Prim.Native.Nat.{_+_, _≤_};
 ghost use mathlib.Core.Path.{_≡_};
-ghost use mathlib.Core.Bool.{cond};
+ghost use mathlib.Core.Bool.{false, cond};
 ghost use lib.ListN.{length, drop};
 ghost use Rattle.b64.specs.B64.{Sextets};
+ghost use Rattle.grammar.specs.Bytes.{dollar};
 ghost use Rattle.fast_path.specs.Walk.{pairIn};
 ghost use Rattle.fast_path.specs.WalkSteps.{most, TwoAre};
 
@@ -18,7 +20,7 @@ pub enum Two {
 
 // A piece has its own `$`; a parameter has the separator that the item before it leaves.
 fn second_separator(pieces: bool, then: u8) -> u8
-    ensures { λ r. ⌜ r ≡ cond pieces 36 then ⌝ }
+    ensures { λ r. ⌜ r ≡ cond pieces dollar then ⌝ }
 {
     if pieces { b'$' } else { then }
 }
@@ -50,4 +52,39 @@ pub fn two_items(
             }
         }
     }
+}
+
+// Two byte strings among the parameters. Mostly there are none, and then no separator stands there: one test instead of two names.
+pub fn two_keys(
+    table: &[u8; 256],
+    a: BytesRule,
+    a_name: &[u8],
+    b: BytesRule,
+    b_name: &[u8],
+    s: &[u8],
+    at: usize,
+    separator: u8,
+    out: &mut [u8],
+    from: usize,
+) -> Two
+    requires { ⌜ (at ≤ length (now s)) × (from + most a + most b + 2 ≤ length (now out)) ⌝ }
+    requires { ⌜ Sextets (now table) ⌝ }
+    ensures { λ r. ⌜ TwoAre (pairIn a (now («a_name» .entry)) b (now («b_name» .entry)) false separator (drop at (now (s .entry)))) (most a + most b) (now (s .entry)) (now (out .entry)) from (now (out .exit)) r ⌝ }
+{
+    if begins(s, at, separator, b"") {
+        return two_items(
+            table,
+            a,
+            a_name,
+            b,
+            b_name,
+            false,
+            s,
+            at,
+            separator,
+            out,
+            from,
+        );
+    }
+    Two::To(at, from, from)
 }

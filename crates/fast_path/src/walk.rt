@@ -3,10 +3,11 @@ use crate::begin::begins;
 use crate::contents::Contents;
 use crate::items::NumberItem;
 use crate::items::number_item;
-use crate::numeral::Numeral;
-use crate::numeral::number;
 use crate::strings::Two;
 use crate::strings::two_items;
+use crate::strings::two_keys;
+use decimal::reader::Limited;
+use grammar::version::version_number;
 use profile::bounds::version_allowed;
 use profile::columns::column_of;
 use profile::fields::Fields;
@@ -64,9 +65,12 @@ fn version_item(versions: Versions, s: &[u8], at: usize) -> VersionItem
     ensures { λ r. ⌜ VersionIs (versionIn (listed versions) (drop at (now (s .entry)))) (now (s .entry)) r ⌝ }
 {
     if begins(s, at, b'$', b"v=") {
-        return match number(s, at + 3) {
-            Numeral::No => VersionItem::No,
-            Numeral::Is(n, next) => allowed(versions, Version::Number(n), next),
+        let start = at + 1;
+        let end = next_at(s, start, b'$');
+        return match version_number(&s[start..end]) {
+            Limited::Malformed => VersionItem::No,
+            Limited::Outside => VersionItem::No,
+            Limited::Value(n) => allowed(versions, Version::Number(n as u32), end),
         };
     }
     allowed(versions, Version::Absent, at)
@@ -185,13 +189,12 @@ fn with_strings(
     let ad = column.ad;
     let salt = column.salt;
     let output = column.output;
-    match two_items(
+    match two_keys(
         table,
         keyid,
         b"keyid=",
         ad,
         b"data=",
-        false,
         s,
         at,
         separator,

@@ -1,37 +1,34 @@
 -- The items of a parameter piece, walked from a place on; their rule; and the way back from items to the piece.
 -- Assumes nothing.
 use Prim.Native.Nat.{ℕ, zero, suc, _+_, _-_, _≤_}
-use mathlib.Core.Bool.{Bool, true, false, not, _&&_, and-false, false≢true}
+use mathlib.Core.Bool.{Bool, true, false, not, _&&_, false≢true}
 use mathlib.Core.List.{List, [], _∷_, map}
 use mathlib.Core.Option.{some}
 use mathlib.Core.Path.{_≡_, refl, sym, _∙_, ap, ap₂}
 use native.Mathlib.Omega.{arith}
-use borrow.Author.Tests.{le-leb, lt-leb}
+use borrow.Author.Tests.{le-leb}
 use lib.Dec.{leb, eqb}
 use lib.ListN.{length, getD, take, drop}
-use Rattle.text.specs.Text.{text, within, all, has, same, empty, Parts, find, split, join, cut, partsFrom, Frees}
+use Rattle.text.specs.Text.{text, within, all, has, same, empty, Parts, find, split, join, cut, Frees}
 use Rattle.text.proofs.Tests.{both}
 use Rattle.text.proofs.Lists.{not-in, has-append, join-split, split-join, cut-join, join-cut}
 use Rattle.text.proofs.Splitting.{from-to, from-zero}
-use Rattle.grammar.specs.Bytes.{isNameByte, isValueByte, isText}
+use Rattle.grammar.specs.Bytes.{comma, equals, isNameByte, isValueByte, isText}
 use Rattle.grammar.specs.Pieces.{Slot}
-use Rattle.grammar.specs.Items.{Item, itemText, items, itemsOf, paramsText}
+use Rattle.grammar.specs.Items.{Item, itemText, items, itemsFrom, itemsOf, paramsText}
 use Rattle.grammar.specs.Limits.{mostItems}
 use Rattle.grammar.specs.Rules.{isName, isValue, isItem, isParams}
 
 -- ---- from a place on
 
-abbrev pub itemsFrom : List ℕ → ℕ → List Item
-itemsFrom s at = map (cut 61) (partsFrom 44 s at)
-
 pub items-start : (s : List ℕ) → items s ≡ itemsFrom s 0
-items-start s = ap (map (cut 61)) (sym (from-zero 44 s))
+items-start s = ap (map (cut equals)) (sym (from-zero comma s))
 
-pub items-to : (s : List ℕ) (at : ℕ) → at ≤ length s → (e : ℕ) → e ≡ at + find 44 (drop at s)
-    → itemsFrom s at ≡ cut 61 (take (e - at) (drop at s)) ∷ itemsFrom s (e + 1)
-items-to s at h e p = ap (map (cut 61)) (from-to 44 s at h e p)
+pub items-to : (s : List ℕ) (at : ℕ) → at ≤ length s → (e : ℕ) → e ≡ at + find comma (drop at s)
+    → itemsFrom s at ≡ cut equals (take (e - at) (drop at s)) ∷ itemsFrom s (e + 1)
+items-to s at h e p = ap (map (cut equals)) (from-to comma s at h e p)
 
--- ---- the rule of a parameter piece, after n items that keep theirs
+-- ---- the rule of a parameter piece, after n items that keep theirs: at the start and at the end
 
 abbrev pub fine : ℕ → List Item → Bool
 fine n is = leb (n + length is) mostItems && all isItem is
@@ -40,28 +37,12 @@ pub fine-start : (s : List ℕ) → isParams s ≡ fine 0 (items s)
 unfolding isParams
 fine-start s = let z : length (items s) ≡ 0 + length (items s) = omega arith in ap (λ (n : ℕ). leb n mostItems && all isItem (items s)) z
 
--- a step from the place `at`, where the next item ends at e
-module _ (n : ℕ) (s : List ℕ) (at : ℕ) (h : at ≤ length s) (e : ℕ) (p : e ≡ at + find 44 (drop at s)) where
-  abbrev rest : List Item
-  rest = itemsFrom s (e + 1)
-
-  pub fine-full : n ≡ mostItems → fine n (itemsFrom s at) ≡ false
-  fine-full q = rw (items-to s at h e p, q, lt-leb (16 + suc (length rest)) 16 (omega arith))
-
-  pub fine-bad : isItem (cut 61 (take (e - at) (drop at s))) ≡ false → fine n (itemsFrom s at) ≡ false
-  fine-bad i = rw (items-to s at h e p, i, and-false)
-
-  pub fine-on : isItem (cut 61 (take (e - at) (drop at s))) ≡ true → fine n (itemsFrom s at) ≡ fine (n + 1) (itemsFrom s (e + 1))
-  fine-on i =
-      let q : n + suc (length rest) ≡ n + 1 + length rest = omega arith in
-      rw (items-to s at h e p, i) (ap (λ (k : ℕ). leb k mostItems && all isItem rest) q)
-
 pub fine-end : (n : ℕ) → n ≤ mostItems → fine n [] ≡ true
 fine-end n h = rw (le-leb (n + 0) 16 (omega arith))
 
 -- ---- an item at an index
 
-pub item-at : (l : List (List ℕ)) (k : ℕ) → getD (map (cut 61) l) k ([], []) ≡ cut 61 (getD l k [])
+pub item-at : (l : List (List ℕ)) (k : ℕ) → getD (map (cut equals) l) k ([], []) ≡ cut equals (getD l k [])
 item-at [] k = refl
 item-at (p ∷ l) zero = refl
 item-at (p ∷ l) (suc k) = item-at l k
@@ -84,31 +65,31 @@ pub value-bytes : (s : List ℕ) → isValue s ≡ true → all isValueByte s �
 unfolding isText
 value-bytes s e = both (within 1 128 (length s)) (all isValueByte s) e .1
 
-nonempty : (s : List ℕ) → isValue s ≡ true → empty s ≡ false
+pub nonempty : (s : List ℕ) → isValue s ≡ true → empty s ≡ false
 unfolding isText
 nonempty [] e = absurd (false≢true e)
 nonempty (c ∷ s) e = refl
 
 -- ---- from the piece to its items and back
 
-uncut : (p : List ℕ) → isItem (cut 61 p) ≡ true → itemText (cut 61 p) ≡ p
-uncut p e = join-cut 61 p (nonempty (cut 61 p .1) (item-value (cut 61 p) e))
+uncut : (p : List ℕ) → isItem (cut equals p) ≡ true → itemText (cut equals p) ≡ p
+uncut p e = join-cut equals p (nonempty (cut equals p .1) (item-value (cut equals p) e))
 
-uncut-all : (ps : List (List ℕ)) → all isItem (map (cut 61) ps) ≡ true → map itemText (map (cut 61) ps) ≡ ps
+uncut-all : (ps : List (List ℕ)) → all isItem (map (cut equals) ps) ≡ true → map itemText (map (cut equals) ps) ≡ ps
 uncut-all [] e = refl
 uncut-all (p ∷ ps) e =
-    let q = both (isItem (cut 61 p)) (all isItem (map (cut 61) ps)) e in
+    let q = both (isItem (cut equals p)) (all isItem (map (cut equals) ps)) e in
     ap₂ {C = List (List ℕ)} _∷_ (uncut p (q .0)) (uncut-all ps (q .1))
 
 -- the text of items, a comma between two
 abbrev pub joined : Item → List Item → List ℕ
-joined i is = join 44 (itemText i) (map itemText is)
+joined i is = join comma (itemText i) (map itemText is)
 
-pub join-items : (s : List ℕ) → all isItem (items s) ≡ true → joined (cut 61 (split 44 s .0)) (map (cut 61) (split 44 s .1)) ≡ s
+pub join-items : (s : List ℕ) → all isItem (items s) ≡ true → joined (cut equals (split comma s .0)) (map (cut equals) (split comma s .1)) ≡ s
 join-items s e =
-    let p = split 44 s in
-    let q = both (isItem (cut 61 (p .0))) (all isItem (map (cut 61) (p .1))) e in
-    ap₂ (join 44) (uncut (p .0) (q .0)) (uncut-all (p .1) (q .1)) ∙ join-split 44 s
+    let p = split comma s in
+    let q = both (isItem (cut equals (p .0))) (all isItem (map (cut equals) (p .1))) e in
+    ap₂ (join comma) (uncut (p .0) (q .0)) (uncut-all (p .1) (q .1)) ∙ join-split comma s
 
 pub params-items : (s : List ℕ) → all isItem (items s) ≡ true → paramsText (items s) ≡ some s
 params-items s e = ap {B = Slot} some (join-items s e)
@@ -121,10 +102,10 @@ module _ (d : ℕ) (n : isNameByte d ≡ false) (v : isValueByte d ≡ false) wh
   pub value-free : (s : List ℕ) → isValue s ≡ true → has d s ≡ false
   value-free s e = not-in isValueByte d v s (value-bytes s e)
 
-  module _ (q : eqb 61 d ≡ false) where
+  module _ (q : eqb equals d ≡ false) where
     pub item-free : (i : Item) → isItem i ≡ true → has d (itemText i) ≡ false
     item-free i e =
-        has-append d (i .0) (61 ∷ i .1) (name-free (i .0) (item-name i e)) (rw q (value-free (i .1) (item-value i e)))
+        has-append d (i .0) (equals ∷ i .1) (name-free (i .0) (item-name i e)) (rw q (value-free (i .1) (item-value i e)))
 
     pub items-free : (is : List Item) → all isItem is ≡ true → Frees d (map itemText is)
     items-free [] e = tt
@@ -132,11 +113,11 @@ module _ (d : ℕ) (n : isNameByte d ≡ false) (v : isValueByte d ≡ false) wh
         let k = both (isItem i) (all isItem is) e in
         (item-free i (k .0), items-free is (k .1))
 
-recut : (i : Item) → isItem i ≡ true → cut 61 (itemText i) ≡ i
+recut : (i : Item) → isItem i ≡ true → cut equals (itemText i) ≡ i
 unfolding isNameByte isValueByte
-recut i e = cut-join 61 (i .0) (i .1) (name-free 61 refl refl (i .0) (item-name i e))
+recut i e = cut-join equals (i .0) (i .1) (name-free equals refl refl (i .0) (item-name i e))
 
-recut-all : (is : List Item) → all isItem is ≡ true → map (cut 61) (map itemText is) ≡ is
+recut-all : (is : List Item) → all isItem is ≡ true → map (cut equals) (map itemText is) ≡ is
 recut-all [] e = refl
 recut-all (i ∷ is) e =
     let q = both (isItem i) (all isItem is) e in
@@ -147,5 +128,5 @@ unfolding isNameByte isValueByte
 items-params [] e = refl
 items-params (i ∷ is) e =
     let q = both (isItem i) (all isItem is) e in
-    let s = split-join 44 (itemText i) (map itemText is) (item-free 44 refl refl refl i (q .0)) (items-free 44 refl refl refl is (q .1)) in
-    ap {B = List Item} (λ (p : Parts). cut 61 (p .0) ∷ map (cut 61) (p .1)) s ∙ recut-all (i ∷ is) e
+    let s = split-join comma (itemText i) (map itemText is) (item-free comma refl refl refl i (q .0)) (items-free comma refl refl refl is (q .1)) in
+    ap {B = List Item} (λ (p : Parts). cut equals (p .0) ∷ map (cut equals) (p .1)) s ∙ recut-all (i ∷ is) e

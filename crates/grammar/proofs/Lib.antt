@@ -2,6 +2,7 @@ pub mod ValueBytes
 pub mod SortLaws
 pub mod Spans
 pub mod ItemLaws
+pub mod ItemPlaces
 pub mod PieceLaws
 pub mod Reading
 pub mod RuleLaws

@@ -21,11 +21,11 @@ use Rattle.decimal.specs.declared.reader.Limited.{Limited}
 use Rattle.decimal.specs.declared.reader.Limited.the-variants.{Malformed, Outside, Value}
 use Rattle.decimal.proofs.DecimalLaws.{length-digits}
 use Rattle.decimal.proofs.NumeralLaws.{digits-limited}
-use Rattle.grammar.specs.Bytes.{inClass, isText}
+use Rattle.grammar.specs.Bytes.{dollar, comma, equals, inClass, isText}
 use Rattle.grammar.specs.Limits.{longestString}
 use Rattle.grammar.specs.Pieces.{Slot, Pieces, pieces, slotOf, afterId, string}
 use Rattle.grammar.specs.Items.{Item, itemText, items}
-use Rattle.grammar.specs.Rules.{isName, isValue, isItem, isParams, isVersion, isOutput, ruleOf, pieceRows, grammarNumber}
+use Rattle.grammar.specs.Rules.{isName, isValue, isItem, isParams, versionReading, isVersion, isOutput, ruleOf, breaks, pieceRows, grammarNumber}
 use Rattle.grammar.specs.declared.classes.Class.{Class}
 use Rattle.grammar.specs.declared.places.Piece.{Piece}
 use Rattle.grammar.specs.declared.places.Piece.the-variants.{Id, Version, Params, Salt, Output}
@@ -42,7 +42,7 @@ item-length : (i : Item) → isItem i ≡ true → length (itemText i) ≤ 161
 item-length i e =
     let n = text-length _ 32 (i .0) (item-name i e) in
     let v = text-length _ 128 (i .1) (item-value i e) in
-    omega (arith, length-append (i .0) (61 ∷ i .1))
+    omega (arith, length-append (i .0) (equals ∷ i .1))
 
 items-total : (is : List Item) → all isItem is ≡ true → total (map itemText is) ≤ 162 * length is
 unfolding total
@@ -72,7 +72,7 @@ version-digits s (Value n) e z =
     omega (arith, ap length (p .0))
 
 version-short : (s : Slot) → broken isVersion s ≡ false → Short 12 s
-unfolding isVersion limitedReading numeral isDecimal
+unfolding isVersion versionReading limitedReading numeral isDecimal
 version-short none e = tt
 version-short (some []) e = absurd (true≢false e)
 version-short (some (c ∷ [])) e = absurd (true≢false e)
@@ -83,13 +83,13 @@ unfolding isParams
 params-short none e = tt
 params-short (some s) e =
     let q = both (leb (length (items s)) 16) (all isItem (items s)) (is-true (isParams s) e) in
-    let i = cut 61 (split 44 s .0) in
-    let is = map (cut 61) (split 44 s .1) in
+    let i = cut equals (split comma s .0) in
+    let is = map (cut equals) (split comma s .1) in
     let n = leb-true (length (items s)) 16 (q .0) in
     let k = both (isItem i) (all isItem is) (q .1) in
     let a = item-length i (k .0) in
     let b = items-total is (k .1) in
-    let c = join-length 44 (itemText i) (map itemText is) in
+    let c = join-length comma (itemText i) (map itemText is) in
     let d = ap length (join-items s (q .1)) in
     omega arith
 
@@ -114,7 +114,7 @@ whole-length p (a, (b, (c, (d, (e, (f, g)))))) =
     let h₃ = add-slot 128 (p .salt) l₃ (value-short (p .salt) d) in
     let h₄ = add-slot 128 (p .output) l₄ (output-short (p .output) e) in
     let h₅ = total-none (p .more) f in
-    let h₆ = join-length 36 (p .id) (afterId p) in
+    let h₆ = join-length dollar (p .id) (afterId p) in
     omega arith
 
 pub at-most : (p : Pieces) → firstOf (pieceRows p) ≡ 0 → length (string p) ≤ longestString
@@ -123,14 +123,14 @@ at-most p e = whole-length p (clear (pieceRows p) refl e)
 -- ---- no rule allows the empty text
 
 empty-breaks : (w : Piece) → ruleOf w [] ≡ false
-unfolding isText isItem isParams isVersion isOutput limitedReading numeral isDecimal
+unfolding isText isItem isParams isVersion versionReading isOutput limitedReading numeral isDecimal
 empty-breaks Id = refl
 empty-breaks Version = refl
 empty-breaks Params = refl
 empty-breaks Salt = refl
 empty-breaks Output = refl
 
-kept : (p : Pieces) → Clear (pieceRows p) → (w : Piece) → broken (ruleOf w) (slotOf p w) ≡ false
+kept : (p : Pieces) → Clear (pieceRows p) → (w : Piece) → breaks p w ≡ false
 kept p c Id = c .0
 kept p c Version = c .1 .0
 kept p c Params = c .1 .1 .0

@@ -7,6 +7,7 @@ use mathlib.Core.Path.{_≡_, sym, _∙_, ap}
 use borrow.Author.Tests.{eqb-true}
 use Rattle.text.specs.Text.{Parts, split, join, headIf, tailIf, listOf}
 use Rattle.text.proofs.Lists.{join-split, split-join, head-tail, head-of, tail-of}
+use Rattle.grammar.specs.Bytes.{dollar}
 use Rattle.grammar.specs.Pieces.{Pieces, belongs, sort, afterFirst, pieces, afterId, string}
 use Rattle.grammar.specs.Rules.{starts}
 use Rattle.grammar.specs.Claims.{Sorts}
@@ -19,15 +20,15 @@ after-sort p =
     let l₃ = tailIf (belongs Salt) l₂ in
     rw (head-tail (belongs Output) l₃, head-tail (belongs Salt) l₂, head-tail (belongs Params) l₁, head-tail (belongs Version) (p .1))
 
-first : (s : List ℕ) → starts s ≡ true → 36 ∷ afterFirst s ≡ s
+first : (s : List ℕ) → starts s ≡ true → dollar ∷ afterFirst s ≡ s
 first [] e = absurd (false≢true e)
-first (c ∷ s) e = ap {B = List ℕ} (λ x. x ∷ s) (sym (eqb-true c 36 e))
+first (c ∷ s) e = ap {B = List ℕ} (λ x. x ∷ s) (sym (eqb-true c dollar e))
 
 pub string-pieces : (s : List ℕ) → starts s ≡ true → string (pieces s) ≡ s
 unfolding pieces
 string-pieces s e =
-    let p = split 36 (afterFirst s) in
-    ap {B = List ℕ} (λ l. 36 ∷ join 36 (p .0) l) (after-sort p) ∙ ap {B = List ℕ} (λ l. 36 ∷ l) (join-split 36 (afterFirst s)) ∙ first s e
+    let p = split dollar (afterFirst s) in
+    ap {B = List ℕ} (λ l. dollar ∷ join dollar (p .0) l) (after-sort p) ∙ ap {B = List ℕ} (λ l. dollar ∷ l) (join-split dollar (afterFirst s)) ∙ first s e
 
 sort-after : (p : Pieces) → Sorts p → sort (p .id, afterId p) ≡ p
 sort-after p h =
@@ -47,4 +48,4 @@ sort-after p h =
 
 pub pieces-string : (p : Pieces) → Sorts p → pieces (string p) ≡ p
 unfolding pieces
-pieces-string p h = ap sort (split-join 36 (p .id) (afterId p) (h .id-free) (h .others-free)) ∙ sort-after p h
+pieces-string p h = ap sort (split-join dollar (p .id) (afterId p) (h .id-free) (h .others-free)) ∙ sort-after p h

@@ -13,6 +13,7 @@ use Rattle.text.specs.Text.{empty, parts, cut}
 use Rattle.text.specs.Rows.{firstOf}
 use Rattle.text.proofs.Tests.{neither, is-true}
 use Rattle.text.proofs.Rows.{Clear, clear}
+use Rattle.grammar.specs.Bytes.{dollar, comma, equals}
 use Rattle.grammar.specs.Pieces.{Slot, pieces, slotOf}
 use Rattle.grammar.specs.Items.{Item, itemsOf}
 use Rattle.grammar.specs.Limits.{longestString}
@@ -40,7 +41,7 @@ pub whole-long : (s : List ℕ) → longestString < length s → badWhole s ≡ 
 unfolding badWhole
 whole-long s h = rw (lt-leb (length s) longestString h, or-true)
 
-pub whole-first : (s : List ℕ) → 1 ≤ length s → length s ≤ longestString → badWhole s ≡ not (eqb (getD s 0 0) 36)
+pub whole-first : (s : List ℕ) → 1 ≤ length s → length s ≤ longestString → badWhole s ≡ not (eqb (getD s 0 0) dollar)
 unfolding badWhole
 whole-first [] k h = absurd (omega arith)
 whole-first (c ∷ s) k h = rw (le-leb (suc (length s)) longestString h)
@@ -126,21 +127,21 @@ layout-part s w = go (eqb (grammarNumber s) 0) refl
     go false e = ap (partAt s) (no-span w) ∙ part-empty s
 
 -- the item at an index, by the text of the parameter piece
-nothing : (k : ℕ) → _≡_ {A = Item} (cut 61 (getD (parts 44 []) k [])) ([], [])
+nothing : (k : ℕ) → _≡_ {A = Item} (cut equals (getD (parts comma []) k [])) ([], [])
 nothing zero = refl
 nothing (suc k) = refl
 
-slot-item : (o : Slot) (k : ℕ) → cut 61 (getD (parts 44 (textOf o)) k []) ≡ getD (itemsOf o) k ([], [])
+slot-item : (o : Slot) (k : ℕ) → cut equals (getD (parts comma (textOf o)) k []) ≡ getD (itemsOf o) k ([], [])
 slot-item none k = nothing k
-slot-item (some s) k = sym (item-at (parts 44 s) k)
+slot-item (some s) k = sym (item-at (parts comma s) k)
 
-item-text : (s : List ℕ) (k : ℕ) → cut 61 (getD (parts 44 (pieceText s Params)) k []) ≡ itemAt s k
+item-text : (s : List ℕ) (k : ℕ) → cut equals (getD (parts comma (pieceText s Params)) k []) ≡ itemAt s k
 unfolding pieceText itemAt
 item-text s k = go (eqb (grammarNumber s) 0)
   where
-    go : (b : Bool) → cut 61 (getD (parts 44 (cond b (textOf (pieces s .params)) [])) k []) ≡ getD (cond b (itemsOf (pieces s .params)) []) k ([], [])
+    go : (b : Bool) → cut equals (getD (parts comma (cond b (textOf (pieces s .params)) [])) k []) ≡ getD (cond b (itemsOf (pieces s .params)) []) k ([], [])
     go true = slot-item (pieces s .params) k
     go false = nothing k
 
-pub item-is : (s : List ℕ) (k : ℕ) (params item : List ℕ) → params ≡ pieceText s Params → item ≡ getD (parts 44 params) k [] → cut 61 item ≡ itemAt s k
-item-is s k params item p q = ap (cut 61) q ∙ ap (λ (l : List ℕ). cut 61 (getD (parts 44 l) k [])) p ∙ item-text s k
+pub item-is : (s : List ℕ) (k : ℕ) (params item : List ℕ) → params ≡ pieceText s Params → item ≡ getD (parts comma params) k [] → cut equals item ≡ itemAt s k
+item-is s k params item p q = ap (cut equals) q ∙ ap (λ (l : List ℕ). cut equals (getD (parts comma l) k [])) p ∙ item-text s k

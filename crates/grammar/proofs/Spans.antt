@@ -11,9 +11,11 @@ use lib.Dec.{leb}
 use lib.ListN.{length, take, drop, length-drop}
 use lib.Seq.{length-take-le}
 use Rattle.text.specs.Text.{find, split, headIf, tailIf, listOf, partsFrom}
+use Rattle.text.specs.Place.{hasRoom}
 use Rattle.text.proofs.Lists.{head-tail}
 use Rattle.text.proofs.Scanning.{find-from-le}
 use Rattle.text.proofs.Splitting.{from-step, from-past}
+use Rattle.grammar.specs.Bytes.{dollar}
 use Rattle.grammar.specs.Pieces.{Slot, belongs, afterFirst, pieces, slotOf}
 use Rattle.grammar.specs.Rules.{starts}
 use Rattle.grammar.specs.Layout.{span, spanFrom, past, placesOf, spanOf}
@@ -30,11 +32,11 @@ Holds s w (some t) = (0 < w .at) × (partAt s w ≡ t)
 
 -- the part of a span that lies inside, and of one that does not
 module _ (s : List ℕ) (w : Span) where
-  pub part-inside : leb (w .at + w .len .0) (length s) ≡ true → partAt s w ≡ take (w .len .0) (drop (w .at) s)
+  pub part-inside : hasRoom (length s) (w .at) (w .len .0) ≡ true → partAt s w ≡ take (w .len .0) (drop (w .at) s)
   unfolding partAt
   part-inside h = rw h
 
-  pub part-outside : leb (w .at + w .len .0) (length s) ≡ false → partAt s w ≡ []
+  pub part-outside : hasRoom (length s) (w .at) (w .len .0) ≡ false → partAt s w ≡ []
   unfolding partAt
   part-outside h = rw h
 
@@ -46,30 +48,30 @@ part-empty s = go (leb (0 + 0) (length s))
     go true = refl
     go false = refl
 
-inside : (s : List ℕ) (at : ℕ) (t : List ℕ) (l : List (List ℕ)) → partsFrom 36 s at ≡ t ∷ l → at ≤ length s
-    → (partAt s (span at (length t)) ≡ t) × (partsFrom 36 s (at + length t + 1) ≡ l)
+inside : (s : List ℕ) (at : ℕ) (t : List ℕ) (l : List (List ℕ)) → partsFrom dollar s at ≡ t ∷ l → at ≤ length s
+    → (partAt s (span at (length t)) ≡ t) × (partsFrom dollar s (at + length t + 1) ≡ l)
 unfolding partAt
 inside s at t l q h =
-    let n = find 36 (drop at s) in
-    let b = find-from-le 36 s at h in
-    let e : take n (drop at s) ∷ partsFrom 36 s (at + n + 1) ≡ t ∷ l = sym (from-step 36 s at h) ∙ q in
+    let n = find dollar (drop at s) in
+    let b = find-from-le dollar s at h in
+    let e : take n (drop at s) ∷ partsFrom dollar s (at + n + 1) ≡ t ∷ l = sym (from-step dollar s at h) ∙ q in
     let e₁ : take n (drop at s) ≡ t = cc in
-    let e₂ : partsFrom 36 s (at + n + 1) ≡ l = cc in
+    let e₂ : partsFrom dollar s (at + n + 1) ≡ l = cc in
     let k : length t ≡ n = ap length (sym e₁) ∙ length-take-le n (drop at s) (omega (arith, length-drop at s)) in
     (rw (k, le-leb (at + n) (length s) b) e₁, rw k e₂)
 
 -- the first part from a place on is what the span of its length holds
-first-part : (s : List ℕ) (at : ℕ) (t : List ℕ) (l : List (List ℕ)) → partsFrom 36 s at ≡ t ∷ l
-    → (partAt s (span at (length t)) ≡ t) × (partsFrom 36 s (at + length t + 1) ≡ l)
+first-part : (s : List ℕ) (at : ℕ) (t : List ℕ) (l : List (List ℕ)) → partsFrom dollar s at ≡ t ∷ l
+    → (partAt s (span at (length t)) ≡ t) × (partsFrom dollar s (at + length t + 1) ≡ l)
 first-part s at t l q = go (leb at (length s)) refl
   where
-    go : (b : Bool) → leb at (length s) ≡ b → (partAt s (span at (length t)) ≡ t) × (partsFrom 36 s (at + length t + 1) ≡ l)
+    go : (b : Bool) → leb at (length s) ≡ b → (partAt s (span at (length t)) ≡ t) × (partsFrom dollar s (at + length t + 1) ≡ l)
     go true b = inside s at t l q (leb-true at (length s) b)
-    go false b = let e : _≡_ {A = List (List ℕ)} [] (t ∷ l) = sym (from-past 36 s at (leb-false at (length s) b)) ∙ q in let z : _≡_ {A = ℕ} 0 1 = cc in absurd (omega arith)
+    go false b = let e : _≡_ {A = List (List ℕ)} [] (t ∷ l) = sym (from-past dollar s at (leb-false at (length s) b)) ∙ q in let z : _≡_ {A = ℕ} 0 1 = cc in absurd (omega arith)
 
 -- a piece that may not be there, at a place whose parts are known, and the place of the next
-slot-part : (s : List ℕ) (at : ℕ) (o : Slot) (l : List (List ℕ)) → 0 < at → partsFrom 36 s at ≡ listOf o ++ l
-    → Holds s (spanFrom at o) o × (0 < past at o) × (partsFrom 36 s (past at o) ≡ l)
+slot-part : (s : List ℕ) (at : ℕ) (o : Slot) (l : List (List ℕ)) → 0 < at → partsFrom dollar s at ≡ listOf o ++ l
+    → Holds s (spanFrom at o) o × (0 < past at o) × (partsFrom dollar s (past at o) ≡ l)
 slot-part s at none l z q = (refl, z, q)
 slot-part s at (some t) l z q = let p = first-part s at t l q in ((z, p .0), omega arith, p .1)
 
@@ -79,13 +81,13 @@ unfolding pieces
 spans s h w = pick w
   where
     p : List ℕ × List (List ℕ)
-    p = split 36 (afterFirst s)
+    p = split dollar (afterFirst s)
 
-    step : (f : Piece) (at : ℕ) (l : List (List ℕ)) → 0 < at → partsFrom 36 s at ≡ l
-        → Holds s (spanFrom at (headIf (belongs f) l)) (headIf (belongs f) l) × (0 < past at (headIf (belongs f) l)) × (partsFrom 36 s (past at (headIf (belongs f) l)) ≡ tailIf (belongs f) l)
+    step : (f : Piece) (at : ℕ) (l : List (List ℕ)) → 0 < at → partsFrom dollar s at ≡ l
+        → Holds s (spanFrom at (headIf (belongs f) l)) (headIf (belongs f) l) × (0 < past at (headIf (belongs f) l)) × (partsFrom dollar s (past at (headIf (belongs f) l)) ≡ tailIf (belongs f) l)
     step f at l z q = slot-part s at (headIf (belongs f) l) (tailIf (belongs f) l) z (q ∙ sym (head-tail (belongs f) l))
 
-    id : Holds s (spanFrom 1 (some (p .0))) (some (p .0)) × (0 < past 1 (some (p .0))) × (partsFrom 36 s (past 1 (some (p .0))) ≡ p .1)
+    id : Holds s (spanFrom 1 (some (p .0))) (some (p .0)) × (0 < past 1 (some (p .0))) × (partsFrom dollar s (past 1 (some (p .0))) ≡ p .1)
     id = slot-part s 1 (some (p .0)) (p .1) (omega arith) (parts-after-first s h)
 
     pick : (w : Piece) → Holds s (spanOf (placesOf (pieces s)) w) (slotOf (pieces s) w)

@@ -1,4 +1,4 @@
--- The classes of bytes that the rules name.
+-- The separators, and the classes of bytes that the rules name.
 -- Assumes nothing.
 use Prim.Native.Nat.{ℕ}
 use mathlib.Core.Bool.{Bool, _&&_, _||_}
@@ -8,6 +8,19 @@ use lib.ListN.{length}
 use Rattle.text.specs.Text.{within, all}
 use Rattle.grammar.specs.declared.classes.Class.{Class}
 use Rattle.grammar.specs.declared.classes.Class.the-variants.{Name, Value}
+
+-- ---- separators: before each piece, between two items, and between an item's name and its value
+
+abbrev pub dollar : ℕ
+dollar = 36
+
+abbrev pub comma : ℕ
+comma = 44
+
+abbrev pub equals : ℕ
+equals = 61
+
+-- ---- classes
 
 -- `a`..`z`, `0`..`9`, or the minus sign
 unfoldable pub isNameByte : ℕ → Bool

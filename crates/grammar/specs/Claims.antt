@@ -8,6 +8,7 @@ use mathlib.Core.Option.{some}
 use lib.ListN.{length, replicate}
 use Rattle.text.specs.Text.{text, has, all, split, join, Frees, Fits, listOf}
 use Rattle.text.specs.Rows.{firstOf}
+use Rattle.grammar.specs.Bytes.{dollar, comma, equals}
 use Rattle.grammar.specs.Limits.{longestName, longestValue, longestOutput, mostItems, longestString}
 use Rattle.grammar.specs.Pieces.{Pieces, belongs, pieces, slotOf, afterId, string}
 use Rattle.grammar.specs.Items.{Item, items, itemsOf, paramsText}
@@ -23,22 +24,22 @@ pub record Sorts (p : Pieces) : Type 0 where
   pub params-fits : Fits (belongs Params) (p .params) (listOf (p .salt) ++ (listOf (p .output) ++ p .more))
   pub salt-fits : Fits (belongs Salt) (p .salt) (listOf (p .output) ++ p .more)
   pub output-fits : Fits (belongs Output) (p .output) (p .more)
-  pub id-free : has 36 (p .id) ≡ false
-  pub others-free : Frees 36 (afterId p)
+  pub id-free : has dollar (p .id) ≡ false
+  pub others-free : Frees dollar (afterId p)
 
 -- 32 `a`; an item of 32 `a` and 128 `b`
 abbrev longName : List ℕ
 longName = replicate longestName 97
 
 abbrev longItem : List ℕ
-longItem = longName ++ 61 ∷ replicate longestValue 98
+longItem = longName ++ equals ∷ replicate longestValue 98
 
 -- the longest string: each piece as long as its rule allows
 abbrev pub longest : List ℕ
 longest =
-    36 ∷ join 36 longName
+    dollar ∷ join dollar longName
     (text "v=4294967295"
-    ∷ join 44 longItem (replicate (mostItems - 1) longItem)
+    ∷ join comma longItem (replicate (mostItems - 1) longItem)
     ∷ replicate longestValue 99
     ∷ replicate longestOutput 65
     ∷ [])

@@ -4,6 +4,7 @@ pub mod Pieces
 pub mod Items
 pub mod Rules
 pub mod Layout
+pub mod ItemPlaces
 pub mod Parts
 pub mod SortingSteps
 pub mod Claims

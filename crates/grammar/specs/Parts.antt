@@ -1,12 +1,13 @@
 -- A piece, and the name and the value of an item, as parts of the string: empty where the string is refused, the piece is not there
 -- or the index is past the last item.
 -- Assumes nothing.
-use Prim.Native.Nat.{ℕ, _+_}
+use Prim.Native.Nat.{ℕ}
 use mathlib.Core.Bool.{Bool, cond}
 use mathlib.Core.List.{List, []}
 use mathlib.Core.Option.{none, some}
-use lib.Dec.{leb, eqb}
+use lib.Dec.{eqb}
 use lib.ListN.{length, take, drop, getD}
+use Rattle.text.specs.Place.{hasRoom}
 use Rattle.grammar.specs.Pieces.{Slot, pieces, slotOf}
 use Rattle.grammar.specs.Items.{Item, itemsOf}
 use Rattle.grammar.specs.Rules.{grammarNumber}
@@ -15,7 +16,7 @@ use Rattle.grammar.specs.declared.places.Span.{Span}
 
 -- Free answer: the part of a span that does not lie inside is empty
 unfoldable pub partAt : List ℕ → Span → List ℕ
-partAt s w = cond (leb (w .at + w .len .0) (length s)) (take (w .len .0) (drop (w .at) s)) []
+partAt s w = cond (hasRoom (length s) (w .at) (w .len .0)) (take (w .len .0) (drop (w .at) s)) []
 
 abbrev pub isAccepted : List ℕ → Bool
 isAccepted s = eqb (grammarNumber s) 0

@@ -6,6 +6,7 @@ use mathlib.Core.List.{List, [], _∷_, _++_}
 use mathlib.Core.Option.{Option, some}
 use lib.Dec.{eqb}
 use Rattle.text.specs.Text.{has, Parts, split, join, headIf, tailIf, listOf}
+use Rattle.grammar.specs.Bytes.{dollar, equals}
 use Rattle.grammar.specs.declared.places.Piece.{Piece}
 use Rattle.grammar.specs.declared.places.Piece.the-variants.{Id, Version, Params, Salt, Output}
 
@@ -26,11 +27,11 @@ pub record Pieces : Type 0 where
 abbrev pub isVersionPiece : List ℕ → Bool
 isVersionPiece [] = false
 isVersionPiece (c ∷ []) = false
-isVersionPiece (c ∷ d ∷ s) = eqb c 118 && eqb d 61
+isVersionPiece (c ∷ d ∷ s) = eqb c 118 && eqb d equals
 
 -- contains `=`
 abbrev pub isParamsPiece : List ℕ → Bool
-isParamsPiece s = has 61 s
+isParamsPiece s = has equals s
 
 -- whether the next piece is the one asked for
 abbrev pub belongs : Piece → List ℕ → Bool
@@ -62,7 +63,7 @@ afterFirst [] = []
 afterFirst (c ∷ s) = s
 
 unfoldable pub pieces : List ℕ → Pieces
-pieces s = sort (split 36 (afterFirst s))
+pieces s = sort (split dollar (afterFirst s))
 
 abbrev pub slotOf : Pieces → Piece → Slot
 slotOf p Id = some (p .id)
@@ -77,4 +78,4 @@ afterId p = listOf (p .version) ++ (listOf (p .params) ++ (listOf (p .salt) ++ (
 
 -- the string of pieces: a `$` before each
 abbrev pub string : Pieces → List ℕ
-string p = 36 ∷ join 36 (p .id) (afterId p)
+string p = dollar ∷ join dollar (p .id) (afterId p)

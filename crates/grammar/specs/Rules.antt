@@ -9,9 +9,10 @@ use Rattle.text.specs.Text.{text, within, all, same, empty, broken}
 use Rattle.text.specs.Rows.{Row, row, firstOf}
 use Rattle.b64.specs.B64.{canonical}
 use Rattle.decimal.specs.Numerals.{limitedReading, limitedNumber}
-use Rattle.grammar.specs.Bytes.{isText}
+use Rattle.decimal.specs.declared.reader.Limited.{Limited}
+use Rattle.grammar.specs.Bytes.{dollar, isText}
 use Rattle.grammar.specs.Limits.{longestName, longestValue, longestOutput, mostItems, largestVersion, longestString}
-use Rattle.grammar.specs.Pieces.{Pieces, pieces}
+use Rattle.grammar.specs.Pieces.{Pieces, pieces, slotOf}
 use Rattle.grammar.specs.Items.{Item, items}
 use Rattle.grammar.specs.declared.classes.Class.the-variants.{Name, Value}
 use Rattle.grammar.specs.declared.places.Piece.{Piece}
@@ -25,9 +26,13 @@ isName s = isText Name longestName s
 abbrev pub isValue : List ℕ → Bool
 isValue s = isText Value longestValue s
 
+-- what stands after a version piece's `v=`, read as a number
+unfoldable pub versionReading : List ℕ → Limited
+versionReading s = limitedReading 0 largestVersion (drop 2 s)
+
 -- after `v=` a shortest decimal, 0 to 4,294,967,295. Asked only of a piece that begins with `v=`
 unfoldable pub isVersion : List ℕ → Bool
-isVersion s = eqb (limitedNumber (limitedReading 0 largestVersion (drop 2 s))) 0
+isVersion s = eqb (limitedNumber (versionReading s)) 0
 
 -- no parameter is named `v`
 unfoldable pub isItem : Item → Bool
@@ -51,7 +56,7 @@ ruleOf Output s = isOutput s
 -- the first byte is `$`
 abbrev pub starts : List ℕ → Bool
 starts [] = false
-starts (c ∷ s) = eqb c 36
+starts (c ∷ s) = eqb c dollar
 
 -- ---- rows
 
@@ -59,13 +64,17 @@ starts (c ∷ s) = eqb c 36
 unfoldable pub badWhole : List ℕ → Bool
 badWhole s = empty s || not (leb (length s) longestString) || not (starts s)
 
+-- a piece is there and breaks its rule
+abbrev pub breaks : Pieces → Piece → Bool
+breaks p w = broken (ruleOf w) (slotOf p w)
+
 abbrev pub pieceRows : Pieces → List Row
 pieceRows p =
-    row 2 (not (isName (p .id)))
-    ∷ row 3 (broken isVersion (p .version))
-    ∷ row 4 (broken isParams (p .params))
-    ∷ row 5 (broken isValue (p .salt))
-    ∷ row 6 (broken isOutput (p .output))
+    row 2 (breaks p Id)
+    ∷ row 3 (breaks p Version)
+    ∷ row 4 (breaks p Params)
+    ∷ row 5 (breaks p Salt)
+    ∷ row 6 (breaks p Output)
     ∷ row 7 (not (empty (p .more)))
     ∷ []
 

@@ -1,4 +1,5 @@
 // The grammar reader: where the pieces of a string stand, or the number of the row that refuses it.
+use crate::numbers::BAD_STRING;
 use crate::places::Places;
 use crate::places::Span;
 use crate::rules::bad_whole;
@@ -41,7 +42,7 @@ pub fn read(s: &[u8]) -> Layout
     ensures { λ r. ⌜ r ≡ layout (now (s .entry)) ⌝ }
 {
     if bad_whole(s) {
-        return refused(1);
+        return refused(BAD_STRING);
     }
     let sorted = sort(s);
     let number = number_of(s, sorted);

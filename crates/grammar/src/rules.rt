@@ -3,27 +3,31 @@ use crate::classes::Class;
 use crate::classes::is_text;
 use crate::items::is_params;
 use crate::items::item_count;
-use crate::limits::LARGEST_VERSION;
 use crate::limits::LONGEST_OUTPUT;
 use crate::limits::LONGEST_STRING;
 use crate::limits::LONGEST_VALUE;
 use crate::names::is_name;
+use crate::numbers::BAD_ID;
+use crate::numbers::BAD_OUTPUT;
+use crate::numbers::BAD_PARAMETERS;
+use crate::numbers::BAD_SALT;
+use crate::numbers::BAD_VERSION;
+use crate::numbers::TOO_MANY_PIECES;
 use crate::places::Piece;
 use crate::places::Places;
 use crate::places::part;
 use crate::places::span_of;
 use crate::sorting::Sorted;
+use crate::version::version_number;
 use b64::canonical::is_canonical;
 use decimal::reader::Limited;
-use decimal::reader::read_within;
 ghost use mathlib.Core.Path.{_≡_};
 ghost use mathlib.Core.Bool.{true};
 ghost use lib.ListN.{length};
-ghost use Rattle.text.specs.Text.{broken};
 ghost use Rattle.text.specs.Rows.{firstOf};
-ghost use Rattle.grammar.specs.Pieces.{pieces, slotOf};
+ghost use Rattle.grammar.specs.Pieces.{pieces};
 ghost use Rattle.grammar.specs.Items.{itemsOf};
-ghost use Rattle.grammar.specs.Rules.{isVersion, isOutput, ruleOf, starts, badWhole, pieceRows};
+ghost use Rattle.grammar.specs.Rules.{isVersion, isOutput, ruleOf, starts, badWhole, breaks, pieceRows};
 ghost use Rattle.grammar.specs.Layout.{placesOf};
 ghost use Rattle.grammar.specs.SortingSteps.{sortedOf};
 
@@ -43,10 +47,7 @@ pub fn bad_whole(s: &[u8]) -> bool
 fn is_version(text: &[u8]) -> bool
     ensures { λ r. ⌜ r ≡ isVersion (now (text .entry)) ⌝ }
 {
-    if text.len() < 2 {
-        return false;
-    }
-    match read_within(&text[2..], 0, LARGEST_VERSION) {
+    match version_number(text) {
         Limited::Malformed => false,
         Limited::Outside => false,
         Limited::Value(_) => true,
@@ -81,7 +82,7 @@ fn keeps_rule(text: &[u8], which: Piece) -> bool
 // Rows 2 to 6: whether a piece that is there breaks its rule.
 fn breaks(s: &[u8], places: Places, which: Piece) -> bool
     requires { ⌜ (starts (now s) ≡ true) × (places ≡ placesOf (pieces (now s))) ⌝ }
-    ensures { λ r. ⌜ r ≡ broken (ruleOf which) (slotOf (pieces (now (s .entry))) which) ⌝ }
+    ensures { λ r. ⌜ r ≡ breaks (pieces (now (s .entry))) which ⌝ }
 {
     let span = span_of(places, which);
     if span.at == 0 {
@@ -97,21 +98,21 @@ pub fn number_of(s: &[u8], sorted: Sorted) -> u8
 {
     let places = sorted.places;
     if breaks(s, places, Piece::Id) {
-        return 2;
+        return BAD_ID;
     }
     if breaks(s, places, Piece::Version) {
-        return 3;
+        return BAD_VERSION;
     }
     if breaks(s, places, Piece::Params) {
-        return 4;
+        return BAD_PARAMETERS;
     }
     if breaks(s, places, Piece::Salt) {
-        return 5;
+        return BAD_SALT;
     }
     if breaks(s, places, Piece::Output) {
-        return 6;
+        return BAD_OUTPUT;
     }
-    if sorted.more { 7 } else { 0 }
+    if sorted.more { TOO_MANY_PIECES } else { 0 }
 }
 
 // The number of items; 0 where there is no parameter piece.

@@ -4,6 +4,7 @@ use crate::record::put_record;
 use fast_path::reader::read;
 use profile::fields::ByteString;
 use profile::reader::byte_string;
+use text::numbers::NO_ROOM;
 ghost use mathlib.Core.Path.{_≡_};
 ghost use Rattle.profile.specs.Limits.{editionTwo};
 ghost use Rattle.profile.specs.Entries.{decoded};
@@ -21,7 +22,7 @@ pub extern "C" fn phc_read(s: &[u8], record: &mut [u8]) -> u64
         return number as u64;
     }
     if record.len() < RECORD_LEN {
-        return 17;
+        return NO_ROOM as u64;
     }
     put_record(r, record);
     0

@@ -3,6 +3,7 @@ use crate::record::WHOLE_LEN;
 use crate::record::put_whole;
 use fast_path::reader::read;
 use fast_path::reader::read_all;
+use text::numbers::NO_ROOM;
 ghost use mathlib.Core.Path.{_≡_};
 ghost use mathlib.Core.Bool.{cond};
 ghost use lib.Dec.{eqb};
@@ -17,7 +18,7 @@ fn number_or_full(s: &[u8]) -> u64
     let r = read(s);
     let number = r.number;
     if number == 0 {
-        return 17;
+        return NO_ROOM as u64;
     }
     number as u64
 }

@@ -24,9 +24,9 @@ use Rattle.decimal.proofs.NumeralLaws.{limited-digits, digits-limited}
 use Rattle.grammar.specs.Bytes.{isValueByte, isText}
 use Rattle.grammar.specs.Limits.{longestValue, longestOutput, largestVersion}
 use Rattle.grammar.specs.Pieces.{Slot, isVersionPiece}
-use Rattle.grammar.specs.Rules.{isValue, isVersion, isOutput}
+use Rattle.grammar.specs.Rules.{isValue, versionReading, isVersion, isOutput}
 use Rattle.grammar.proofs.ValueBytes.{canonical-values}
-use Rattle.profile.specs.Limits.{Profile, inRange, versionAllowed, largest32}
+use Rattle.profile.specs.Limits.{inRange, versionAllowed, largest32}
 use Rattle.profile.specs.Fields.{isNumber, misplacedNumber, readNumber, writtenOut, writeNumber, misplacedBytes, isSized, isBytes, readBytes, writeBytes, readVersion, writeVersion}
 use Rattle.profile.specs.Writer.{bytesAllowed}
 use Rattle.profile.specs.Sound.{soundNumber, textWithin, soundVersions}
@@ -210,7 +210,7 @@ written-output (some t) n c = not-of-true (and-true (is-true (within 1 longestOu
 -- ---- the version
 
 pub version-back : (s : Slot) → broken isVersionPiece s ≡ false → broken isVersion s ≡ false → writeVersion (readVersion s) ≡ s
-unfolding isVersion
+unfolding isVersion versionReading
 version-back none p e = refl
 version-back (some []) p e = absurd (true≢false p)
 version-back (some (c ∷ [])) p e = absurd (true≢false p)
@@ -226,9 +226,9 @@ pub record VersionWritten (v : Version) (s : Slot) : Type 0 where
   pub version : broken isVersion s ≡ false
   pub reads : readVersion s ≡ v
 
-pub version-forth : (r : Profile) (v : Version) → soundVersions (r .versions) ≡ true → versionAllowed (r .versions) v ≡ true → VersionWritten v (writeVersion v)
-unfolding isVersion
-version-forth r Absent k e = record { piece = refl; version = refl; reads = refl }
-version-forth r (Number n) k e =
-    let q = limited-forth 0 largestVersion n (all-has (within 0 largestVersion) n (r .versions) k e) in
+pub version-forth : (vs : List ℕ) (v : Version) → soundVersions vs ≡ true → versionAllowed vs v ≡ true → VersionWritten v (writeVersion v)
+unfolding isVersion versionReading
+version-forth vs Absent k e = record { piece = refl; version = refl; reads = refl }
+version-forth vs (Number n) k e =
+    let q = limited-forth 0 largestVersion n (all-has (within 0 largestVersion) n vs k e) in
     record { piece = refl; version = rw q; reads = rw q }

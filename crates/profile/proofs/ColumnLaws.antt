@@ -8,8 +8,9 @@ use native.Mathlib.Omega.{arith}
 use borrow.Author.Tests.{lt-ltb, le-ltb}
 use lib.Dec.{ltb, eqb, eqb·suc-zero}
 use lib.ListN.{length, drop}
+use lib.Seq.{drop-cons}
 use Rattle.text.specs.Text.{same}
-use Rattle.text.proofs.Table.{tabulate, tabulated, drop-at}
+use Rattle.text.proofs.Table.{tabulate, tabulated}
 use Rattle.grammar.specs.Parts.{partAt}
 use Rattle.profile.specs.Limits.{Profile, nobody, argon2, pbkdf2, profileOf, next, idOf, editionTwo}
 use Rattle.profile.specs.Columns.{nameIn, nameAt}
@@ -75,7 +76,7 @@ module _ (s : List ℕ) where
 
   step : (j : ℕ) → j < 5 → idFrom j s ≡ counted j (cond (same s (nameAt (suc j))) 1 (next (idOf (drop (suc j) editionTwo) s)))
   step j h =
-      ap (λ (l : List Profile). counted j (idOf l s)) (drop-at nobody editionTwo j (omega (arith, entries)))
+      ap (λ (l : List Profile). counted j (idOf l s)) (drop-cons editionTwo j nobody (omega (arith, entries)))
       ∙ ap (λ (b : Bool). counted j (cond b 1 (next (idOf (drop (suc j) editionTwo) s)))) (by-index (suc j) (omega arith) (omega arith) s)
 
   pub id-here : (j : ℕ) → j < 5 → same s (nameAt (suc j)) ≡ true → idFrom j s ≡ suc j

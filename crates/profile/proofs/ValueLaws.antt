@@ -1,102 +1,44 @@
--- The walk over the items of a parameter piece: where the next item and its value stand, a step of the walk, and five of them.
+-- The walk over the items of a parameter piece: a step of the walk, and five of them.
 -- Assumes nothing.
-use Prim.Native.Nat.{ℕ, _+_, _-_, _≤_, _<_}
+use Prim.Native.Nat.{ℕ, _≤_, _<_}
 use mathlib.Core.Path.{_≡_, refl, sym, ap, ap₂, _∙_}
 use mathlib.Core.List.{List, [], _∷_, map}
-use mathlib.Core.Option.{some}
 use mathlib.Core.Bool.{Bool, true, false, not, cond}
-use native.Mathlib.Omega.{arith}
-use borrow.Author.Tests.{le-leb}
 use lib.Dec.{leb}
-use lib.ListN.{length, take, drop, length-drop}
-use lib.Seq.{length-take-le, take-take, drop-drop}
-use Rattle.text.specs.Text.{text, all, same, empty, find, cut, within, tailIf, partsFrom}
-use Rattle.text.proofs.Tests.{both, from-within}
-use Rattle.text.proofs.Scanning.{find-from-le, find-take}
-use Rattle.text.proofs.Splitting.{from-past, some-from, cut-before, cut-after}
-use Rattle.text.proofs.Prefixes.{drop-take}
-use Rattle.grammar.specs.Bytes.{isValueByte, isText}
+use lib.ListN.{length, drop}
+use Rattle.text.specs.Text.{text, all, same, empty, cut, tailIf, partsFrom}
+use Rattle.text.proofs.Tests.{both}
+use Rattle.text.proofs.Splitting.{some-from}
+use Rattle.grammar.specs.Bytes.{comma, equals}
 use Rattle.grammar.specs.Pieces.{Slot}
-use Rattle.grammar.specs.Items.{Item, items}
-use Rattle.grammar.specs.Rules.{isValue, isItem}
+use Rattle.grammar.specs.Items.{Item, items, itemsFrom}
+use Rattle.grammar.specs.Rules.{isItem}
 use Rattle.grammar.specs.Layout.{span}
+use Rattle.grammar.specs.ItemPlaces.{itemPlace}
 use Rattle.grammar.specs.Parts.{partAt}
 use Rattle.grammar.specs.declared.places.Span.{Span}
-use Rattle.grammar.proofs.Spans.{part-inside}
-use Rattle.grammar.proofs.ItemLaws.{items-start, items-to, item-value}
+use Rattle.grammar.specs.declared.item_places.ItemPlace.{ItemPlace}
+use Rattle.grammar.proofs.ItemLaws.{items-start}
+use Rattle.grammar.proofs.ItemPlaces.{items-past, items-found, kept-value-at}
 use Rattle.profile.specs.Reader.{names, named, slots, strangers}
-use Rattle.profile.specs.ReaderSteps.{slotIn, itemsFrom, ValueStep, slotsIn, ValuesAre}
+use Rattle.profile.specs.ReaderSteps.{slotIn, ValueStep, slotsIn, ValuesAre}
 use Rattle.profile.specs.declared.values.Values.{Values}
 use Rattle.profile.proofs.SlotLaws.{slot-some}
 
-value-long : (t : List ℕ) → isValue t ≡ true → 0 < length t
-unfolding isText
-value-long t e = let w = from-within 1 128 (length t) (both (within 1 128 (length t)) (all isValueByte t) e .0) in omega arith
+-- ---- a step over the item found at a place
 
--- ---- the item at a place: it ends at `end`, and `equals` is its equals sign
+module _ (s name : List ℕ) (at : ℕ) (h : at ≤ length s) (ok : all isItem (itemsFrom s at) ≡ true) (w : ItemPlace) (q : w ≡ itemPlace s at) where
+  pub step-to : same (partAt s (w .name)) name ≡ true → ValueStep s name at (w .value) (w .next)
+  step-to b =
+      let i = items-found s at h w q in
+      record { found = slot-some s (w .value) (λ z. kept-value-at s at h ok (sym (ap (λ (v : ItemPlace). v .value .at) q) ∙ z)) ∙ rw (i, b); left = rw (i, b) }
 
-module _ (s : List ℕ) (at : ℕ) (h : at ≤ length s) (end : ℕ) (p : end ≡ at + find 44 (drop at s)) (equals : ℕ) (q : equals ≡ at + find 61 (drop at s))
-    (ok : all isItem (itemsFrom s at) ≡ true) where
-  abbrev item : List ℕ
-  item = take (end - at) (drop at s)
-
-  ends : end ≤ length s
-  ends = omega (arith, find-from-le 44 s at h)
-
-  size : length item ≡ end - at
-  size = length-take-le (end - at) (drop at s) (omega (arith, length-drop at s, ends))
-
-  -- its value is not empty, so it has an equals sign
-  inside : find 61 item + 1 < length item
-  inside =
-      let i = both (isItem (cut 61 item)) (all isItem (itemsFrom s (end + 1))) (sym (ap (all isItem) (items-to s at h end p)) ∙ ok) .0 in
-      let v : 0 < length (cut 61 item .1) = value-long (cut 61 item .1) (item-value (cut 61 item) i) in
-      let l : length (cut 61 item .1) ≡ length item - (find 61 item + 1) = ap length (cut-after 61 item) ∙ length-drop (find 61 item + 1) item in
-      omega arith
-
-  mark : equals ≡ at + find 61 item
-  mark = q ∙ ap (λ (n : ℕ). at + n) (find-take 61 (end - at) (drop at s) (omega (arith, inside)))
-
-  pub ahead : equals + 1 < end
-  ahead = omega (arith, inside, mark, size)
-
-  name-is : cut 61 item .0 ≡ take (equals - at) (drop at s)
-  name-is =
-      let e : find 61 item ≡ equals - at = omega (arith, mark) in
-      cut-before 61 item ∙ ap (λ (n : ℕ). take n item) e ∙ take-take (equals - at) (end - at) (drop at s) (omega (arith, ahead))
-
-  value-is : cut 61 item .1 ≡ partAt s (span (equals + 1) (end - (equals + 1)))
-  value-is =
-      let n = find 61 item + 1 in
-      let k = end - (equals + 1) in
-      let e : end - at ≡ n + k = omega (arith, mark, ahead) in
-      let f : at + n ≡ equals + 1 = omega (arith, mark) in
-      cut-after 61 item
-      ∙ ap (λ (m : ℕ). drop n (take m (drop at s))) e
-      ∙ drop-take n k (drop at s) (omega (arith, length-drop at s, ends, mark, ahead))
-      ∙ ap (take k) (drop-drop n at s ∙ ap (λ (m : ℕ). drop m s) f)
-      ∙ sym (part-inside s (span (equals + 1) k) (le-leb (equals + 1 + k) (length s) (omega (arith, ends, ahead))))
-
-  module _ (name : List ℕ) where
-    named-is : named name (cut 61 item) ≡ same (take (equals - at) (drop at s)) name
-    named-is = ap (λ (n : List ℕ). same n name) name-is
-
-    pub step-to : same (take (equals - at) (drop at s)) name ≡ true → ValueStep s name at (span (equals + 1) (end - (equals + 1))) (end + 1)
-    step-to b =
-        let i = items-to s at h end p in
-        let w = span (equals + 1) (end - (equals + 1)) in
-        let t = named-is ∙ b in
-        record { found = slot-some s w (λ z. omega arith) ∙ ap {B = Slot} some (sym value-is) ∙ rw (i, t); left = rw (i, t) }
-
-    pub step-not : same (take (equals - at) (drop at s)) name ≡ false → ValueStep s name at (span 0 0) at
-    step-not b =
-        let i = items-to s at h end p in
-        let t = named-is ∙ b in
-        record { found = rw (i, t); left = rw (i, t) }
+  pub step-not : same (partAt s (w .name)) name ≡ false → ValueStep s name at (span 0 0) at
+  step-not b = let i = items-found s at h w q in record { found = rw (i, b); left = rw (i, b) }
 
 pub step-past : (s name : List ℕ) (at : ℕ) → length s < at → ValueStep s name at (span 0 0) at
 step-past s name at h =
-    let e = from-past 44 s at h in
+    let e = items-past s at h in
     record { found = rw e; left = rw e }
 
 -- ---- steps one after another
@@ -145,5 +87,5 @@ module _ (s : List ℕ) (m t p keyid ad : Span) (n₁ n₂ n₃ n₄ n₅ : ℕ)
   values-are =
       record {
         found = sym found-all;
-        strange-is = sym (ap (λ (l : List Item). not (empty l)) left-all ∙ ap not (empty-map (cut 61) (partsFrom 44 s n₅)) ∙ some-from 44 s n₅);
+        strange-is = sym (ap (λ (l : List Item). not (empty l)) left-all ∙ ap not (empty-map (cut equals) (partsFrom comma s n₅)) ∙ some-from comma s n₅);
       }

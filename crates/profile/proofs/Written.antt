@@ -206,7 +206,7 @@ module _ (e : List Profile) (ok : sound e ≡ true) where
       record {
         known = h .id;
         entry = E;
-        version = version-forth r (n .version) (E .versions) (h .version);
+        version = version-forth (r .versions) (n .version) (E .versions) (h .version);
         allowed = h .version;
         m = number-forth (r .m) (n .m) (E .m) (h .m);
         t = number-forth (r .t) (n .t) (E .t) (h .t);

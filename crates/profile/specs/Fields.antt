@@ -5,14 +5,14 @@ use mathlib.Core.Bool.{Bool, true, false, cond, _&&_}
 use mathlib.Core.List.{List, [], _∷_, _++_}
 use mathlib.Core.Option.{none, some}
 use lib.Dec.{eqb}
-use lib.ListN.{length, drop}
+use lib.ListN.{length}
 use Rattle.text.specs.Text.{text}
 use Rattle.b64.specs.B64.{canonical, decode, encode}
 use Rattle.decimal.specs.Decimal.{digits}
 use Rattle.decimal.specs.Numerals.{limitedReading, limitedNumber, limitedValue}
 use Rattle.decimal.specs.declared.reader.Limited.{Limited}
-use Rattle.grammar.specs.Limits.{largestVersion}
 use Rattle.grammar.specs.Pieces.{Slot}
+use Rattle.grammar.specs.Rules.{versionReading}
 use Rattle.profile.specs.Limits.{lowest, highest, isSize}
 use Rattle.profile.specs.declared.limits.NumberRule.{NumberRule}
 use Rattle.profile.specs.declared.limits.NumberRule.the-variants.{Needed, Omitted, Fixed}
@@ -108,7 +108,7 @@ writeBytes (b ∷ bs) = some (encode (b ∷ bs))
 
 abbrev pub readVersion : Slot → Version
 readVersion none = Absent
-readVersion (some s) = Number (limitedValue (limitedReading 0 largestVersion (drop 2 s)))
+readVersion (some s) = Number (limitedValue (versionReading s))
 
 abbrev pub writeVersion : Version → Slot
 writeVersion Absent = none

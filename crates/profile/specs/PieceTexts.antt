@@ -6,6 +6,7 @@ use mathlib.Core.List.{List, [], _∷_, _++_}
 use mathlib.Core.Option.{none, some}
 use lib.ListN.{length}
 use Rattle.text.specs.Text.{text}
+use Rattle.grammar.specs.Bytes.{dollar}
 use Rattle.grammar.specs.Pieces.{Slot}
 use Rattle.profile.specs.Limits.{Profile}
 use Rattle.profile.specs.Fields.{FieldSet, writeNumber, writeBytes, writeVersion}
@@ -38,12 +39,12 @@ itemsText r n keyid ad =
 -- a `$` in place of the first comma
 abbrev pub dollared : List ℕ → List ℕ
 dollared [] = []
-dollared (c ∷ s) = 36 ∷ s
+dollared (c ∷ s) = dollar ∷ s
 
 -- the pieces before the salt
 abbrev pub headText : Profile → Fields → List ℕ → List ℕ → List ℕ
 headText r n keyid ad =
-    (36 ∷ r .name)
+    (dollar ∷ r .name)
     ++ tagged (text "$") (writeVersion (n .version))
     ++ dollared (itemsText r n keyid ad)
 

@@ -3,14 +3,14 @@
 use Prim.Native.Nat.{ℕ}
 use mathlib.Core.Path.{_≡_}
 use mathlib.Core.Bool.{true, not, cond}
-use mathlib.Core.List.{List, [], _∷_, map}
+use mathlib.Core.List.{List, [], _∷_}
 use mathlib.Core.Option.{none, some}
 use lib.Dec.{eqb}
-use Rattle.text.specs.Text.{empty, cut, headIf, tailIf, partsFrom}
+use Rattle.text.specs.Text.{empty, headIf, tailIf}
 use Rattle.text.specs.Rows.{Row, firstOf}
 use Rattle.b64.specs.B64.{canonical, decode}
 use Rattle.grammar.specs.Pieces.{Slot}
-use Rattle.grammar.specs.Items.{Item}
+use Rattle.grammar.specs.Items.{Item, itemsFrom}
 use Rattle.grammar.specs.Parts.{partAt, textOf}
 use Rattle.grammar.specs.declared.places.Span.{Span}
 use Rattle.profile.specs.Limits.{Profile, editionTwo}
@@ -26,10 +26,6 @@ use Rattle.profile.specs.declared.values.Values.{Values}
 -- the text of a span that may not be there
 abbrev pub slotIn : List ℕ → Span → Slot
 slotIn s w = cond (eqb (w .at) 0) none (some (partAt s w))
-
--- the items of a parameter piece from a place on
-abbrev pub itemsFrom : List ℕ → ℕ → List Item
-itemsFrom s at = map (cut 61) (partsFrom 44 s at)
 
 -- a step of the walk over the items: the value of the name, if the next item has it, and where the items left begin
 pub record ValueStep (params name : List ℕ) (at : ℕ) (span : Span) (next : ℕ) : Type 0 where

@@ -8,6 +8,14 @@ use crate::limits::Column;
 use crate::number_field::misplaced_number;
 use crate::number_field::read_number;
 use crate::number_field::written_out;
+use crate::numbers::UNKNOWN_ID;
+use crate::numbers::VERSION_NOT_PERMITTED;
+use crate::numbers::WRITTEN_OUT;
+use crate::numbers::WRONG_BYTES;
+use crate::numbers::WRONG_NAMES;
+use crate::numbers::WRONG_NUMBER;
+use crate::numbers::WRONG_OUTPUT;
+use crate::numbers::WRONG_SALT;
 use crate::values::Values;
 use grammar::places::Span;
 ghost use Prim.Native.Nat.{ℕ};
@@ -89,7 +97,7 @@ fn read_numbers(column: Column, params: &[u8], values: Values) -> Judgement
         return refused(p.number);
     }
     if m.value / 8 < p.value {
-        return refused(11);
+        return refused(WRONG_NUMBER);
     }
     Judgement {
         number: 0,
@@ -107,27 +115,27 @@ fn bytes_and_spelling(column: Column, params: &[u8], values: Values, n: Judgemen
     let keyid = column.keyid;
     let keyid_span = values.keyid;
     if bad_bytes(keyid, params, keyid_span) {
-        return 12;
+        return WRONG_BYTES;
     }
     let ad = column.ad;
     let ad_span = values.ad;
     if bad_bytes(ad, params, ad_span) {
-        return 12;
+        return WRONG_BYTES;
     }
     let m = column.m;
     let m_span = values.m;
     if written_out(m, m_span, n.m) {
-        return 13;
+        return WRITTEN_OUT;
     }
     let t = column.t;
     let t_span = values.t;
     if written_out(t, t_span, n.t) {
-        return 13;
+        return WRITTEN_OUT;
     }
     let p = column.p;
     let p_span = values.p;
     if written_out(p, p_span, n.p) {
-        return 13;
+        return WRITTEN_OUT;
     }
     0
 }
@@ -145,17 +153,17 @@ pub fn judge(
     ensures { λ r. ⌜ Judged (rowsFor (profileIn column) version (slotsIn (now (params .entry)) values) (values .strange) (slotIn (now (s .entry)) salt) (slotIn (now (s .entry)) output)) (profileIn column) (slotsIn (now (params .entry)) values) r ⌝ }
 {
     if !column.known {
-        return refused(8);
+        return refused(UNKNOWN_ID);
     }
     let versions = column.versions;
     if !version_allowed(versions, version) {
-        return refused(9);
+        return refused(VERSION_NOT_PERMITTED);
     }
     if values.strange {
-        return refused(10);
+        return refused(WRONG_NAMES);
     }
     if is_misplaced(column, values) {
-        return refused(10);
+        return refused(WRONG_NAMES);
     }
     let n = read_numbers(column, params, values);
     if n.number != 0 {
@@ -167,11 +175,11 @@ pub fn judge(
     }
     let salt_rule = column.salt;
     if bad_bytes(salt_rule, s, salt) {
-        return refused(14);
+        return refused(WRONG_SALT);
     }
     let output_rule = column.output;
     if bad_size(output_rule, s, output) {
-        return refused(15);
+        return refused(WRONG_OUTPUT);
     }
     n
 }

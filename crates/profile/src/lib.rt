@@ -9,6 +9,7 @@ pub mod limits;
 mod name_field;
 mod names;
 mod number_field;
+pub mod numbers;
 pub mod omitted;
 mod ranges;
 pub mod reader;

@@ -7,6 +7,7 @@ ghost use mathlib.Core.Path.{_≡_};
 ghost use mathlib.Core.List.{_∷_};
 ghost use lib.ListN.{length};
 ghost use Rattle.text.specs.Place.{Wrote};
+ghost use Rattle.grammar.specs.Bytes.{dollar};
 ghost use Rattle.profile.specs.Columns.{nameAt};
 
 // The length of the name at an index of the table.
@@ -21,7 +22,7 @@ pub fn name_len(index: usize) -> usize
 // Puts a `$` and the name at an index of the table at the start of a buffer.
 pub fn put_name(index: usize, out: &mut [u8]) -> usize
     requires { ⌜ suc (length (nameAt index)) ≤ length (now out) ⌝ }
-    ensures { λ r. ⌜ Wrote (36 ∷ nameAt index) (now (out .entry)) (now (out .exit)) r ⌝ }
+    ensures { λ r. ⌜ Wrote (dollar ∷ nameAt index) (now (out .entry)) (now (out .exit)) r ⌝ }
 {
     let names = &NAMES;
     let after_dollar = put_text(b"$", out);

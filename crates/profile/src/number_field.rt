@@ -1,5 +1,6 @@
 // One number parameter: its rule over the span of its value, and its text.
 use crate::limits::NumberRule;
+use crate::numbers::WRONG_NUMBER;
 use crate::omitted::given_of;
 use crate::omitted::left_out;
 use crate::ranges::highest_of;
@@ -51,11 +52,11 @@ fn written(rule: NumberRule, text: &[u8]) -> Number
 {
     match read_within(text, lowest_of(rule) as u64, highest_of(rule) as u64) {
         Limited::Malformed => Number {
-            number: 11,
+            number: WRONG_NUMBER,
             value: 0,
         },
         Limited::Outside => Number {
-            number: 11,
+            number: WRONG_NUMBER,
             value: 0,
         },
         Limited::Value(n) => Number {

@@ -12,10 +12,10 @@ use crate::values::no_values;
 use crate::values::values_in;
 use b64::decoder::decode;
 use decimal::reader::Limited;
-use decimal::reader::read_within;
 use grammar::places::Places;
 use grammar::places::Span;
 use grammar::places::part;
+use grammar::version::version_number;
 use text::place::Decoded;
 use text::units::Bytes;
 ghost use Prim.Native.Nat.{ℕ};
@@ -65,11 +65,7 @@ fn version_in(s: &[u8], span: Span) -> Version
     if span.at == 0 {
         return Version::Absent;
     }
-    let text = part(s, span);
-    if text.len() < 2 {
-        return Version::Number(0);
-    }
-    match read_within(&text[2..], 0, 4294967295) {
+    match version_number(part(s, span)) {
         Limited::Malformed => Version::Number(0),
         Limited::Outside => Version::Number(0),
         Limited::Value(n) => Version::Number(n as u32),

@@ -1,6 +1,7 @@
 // The values of the five names in a parameter piece, found in one walk: where each stands in the piece.
+use grammar::item_places::item_place;
 use grammar::places::Span;
-use text::scan::next_at;
+use grammar::places::part;
 use text::scan::same_text;
 use text::units::Chars;
 ghost use mathlib.Core.Path.{_≡_};
@@ -8,9 +9,9 @@ ghost use mathlib.Core.Bool.{true};
 ghost use mathlib.Core.List.{List, []};
 ghost use Prim.Native.Nat.{ℕ};
 ghost use Rattle.text.specs.Text.{all};
-ghost use Rattle.grammar.specs.Items.{items};
+ghost use Rattle.grammar.specs.Items.{items, itemsFrom};
 ghost use Rattle.grammar.specs.Rules.{isItem};
-ghost use Rattle.profile.specs.ReaderSteps.{itemsFrom, ValueStep, ValuesAre};
+ghost use Rattle.profile.specs.ReaderSteps.{ValueStep, ValuesAre};
 
 // A value that is not there has the span 0 and 0. `strange`: items are left that have no name of the five, or not in their order.
 pub struct Values {
@@ -42,16 +43,13 @@ fn take_value(params: &[u8], at: usize, name: &[u8]) -> Step
             next: at,
         };
     }
-    let end = next_at(params, at, b',');
-    let equals = next_at(params, at, b'=');
-    if same_text(&params[at..equals], name) {
-        let start = equals + 1;
+    let item = item_place(params, at);
+    let item_name = item.name;
+    let value = item.value;
+    if same_text(part(params, item_name), name) {
         Step {
-            span: Span {
-                at: start,
-                len: Chars(end - start),
-            },
-            next: end + 1,
+            span: value,
+            next: item.next,
         }
     } else {
         Step {

@@ -4,6 +4,7 @@ use crate::fields::Fields;
 use crate::writer_rows::refusal_of;
 use crate::writer_text::put_string;
 use crate::writer_text::string_len;
+use text::numbers::NO_ROOM;
 use text::place::Written;
 use text::place::has_room;
 use text::units::Chars;
@@ -38,7 +39,7 @@ pub fn write(
     let count = string_len(column, n, keyid, data, salt, output);
     if !has_room(buf.len(), at, count) {
         return Written {
-            number: 17,
+            number: NO_ROOM,
             count: Chars(0),
         };
     }

@@ -4,6 +4,13 @@ use crate::bounds::version_allowed;
 use crate::bytes_field::bytes_allowed;
 use crate::fields::Fields;
 use crate::limits::Column;
+use crate::numbers::OUTPUT_WITHOUT_SALT;
+use crate::numbers::UNKNOWN_ID;
+use crate::numbers::VERSION_NOT_PERMITTED;
+use crate::numbers::WRONG_BYTES;
+use crate::numbers::WRONG_NUMBER;
+use crate::numbers::WRONG_OUTPUT;
+use crate::numbers::WRONG_SALT;
 ghost use mathlib.Core.Path.{_≡_};
 ghost use Rattle.text.specs.Rows.{firstOf};
 ghost use Rattle.profile.specs.Columns.{profileIn};
@@ -16,18 +23,18 @@ fn bad_numbers(column: Column, n: Fields) -> u8
 {
     let m = column.m;
     if !in_range(m, n.m) {
-        return 11;
+        return WRONG_NUMBER;
     }
     let t = column.t;
     if !in_range(t, n.t) {
-        return 11;
+        return WRONG_NUMBER;
     }
     let p = column.p;
     if !in_range(p, n.p) {
-        return 11;
+        return WRONG_NUMBER;
     }
     if n.m / 8 < n.p {
-        return 11;
+        return WRONG_NUMBER;
     }
     0
 }
@@ -38,25 +45,25 @@ fn bad_byte_strings(column: Column, keyid: &[u8], ad: &[u8], salt: &[u8], output
 {
     let keyid_rule = column.keyid;
     if !bytes_allowed(keyid_rule, keyid) {
-        return 12;
+        return WRONG_BYTES;
     }
     let ad_rule = column.ad;
     if !bytes_allowed(ad_rule, ad) {
-        return 12;
+        return WRONG_BYTES;
     }
     let salt_rule = column.salt;
     if !bytes_allowed(salt_rule, salt) {
-        return 14;
+        return WRONG_SALT;
     }
     let output_rule = column.output;
     if !bytes_allowed(output_rule, output) {
-        return 15;
+        return WRONG_OUTPUT;
     }
     if salt.len() != 0 {
         return 0;
     }
     if output.len() != 0 {
-        return 16;
+        return OUTPUT_WITHOUT_SALT;
     }
     0
 }
@@ -73,12 +80,12 @@ pub fn refusal_of(
     ensures { λ r. ⌜ r ≡ firstOf (columnRows (profileIn column) (fieldSet n (now (keyid .entry)) (now (ad .entry)) (now (salt .entry)) (now (output .entry)))) ⌝ }
 {
     if !column.known {
-        return 8;
+        return UNKNOWN_ID;
     }
     let versions = column.versions;
     let version = n.version;
     if !version_allowed(versions, version) {
-        return 9;
+        return VERSION_NOT_PERMITTED;
     }
     let number = bad_numbers(column, n);
     if number != 0 {

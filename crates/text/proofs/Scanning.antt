@@ -60,14 +60,3 @@ module _ (a b : List ℕ) (i : ℕ) where
 
   pub same-step : i < length a → i < length b → getD a i 0 ≡ getD b i 0 → same (drop i a) (drop i b) ≡ same (drop (i + 1) a) (drop (i + 1) b)
   same-step h k e = rw (add-one, drop-cons a i 0 h, drop-cons b i 0 k, eq-eqb (getD a i 0) (getD b i 0) e)
-
--- the first d of a list's beginning, where there is one, is the first of the list
-pub find-take : (d n : ℕ) (s : List ℕ) → find d (take n s) < length (take n s) → find d s ≡ find d (take n s)
-find-take d zero s h = absurd (omega arith)
-find-take d (suc n) [] h = absurd (omega arith)
-find-take d (suc n) (c ∷ s) h = go (eqb c d) (find-take d n s) h
-  where
-    go : (b : Bool) → (find d (take n s) < length (take n s) → find d s ≡ find d (take n s))
-        → cond b 0 (suc (find d (take n s))) < suc (length (take n s)) → cond b 0 (suc (find d s)) ≡ cond b 0 (suc (find d (take n s)))
-    go true q k = refl
-    go false q k = ap suc (q (omega arith))

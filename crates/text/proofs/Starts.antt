@@ -1,7 +1,7 @@
 -- A text that begins with another: what it is, and the test of it place by place; and how a text begins.
 -- Assumes nothing.
 use Prim.Native.Nat.{ℕ, suc, _+_, _≤_, _<_}
-use mathlib.Core.Bool.{Bool, true, false, _&&_, _||_, and-false, false≢true, cond, not}
+use mathlib.Core.Bool.{Bool, true, false, _&&_, _||_, and-false, true≢false, false≢true, cond, not}
 use mathlib.Core.List.{List, [], _∷_, _++_, append-assoc}
 use mathlib.Core.Path.{_≡_, refl, ap, ap₂, sym, _∙_}
 use native.Mathlib.Numerals.{add-one}
@@ -46,6 +46,15 @@ starts-short (c ∷ l) [] h = refl
 starts-short (c ∷ l) (d ∷ t) h = rw (starts-short l t (omega arith)) (and-false (eqb d c))
 
 -- what begins with a text is at least as long
+-- what doesn't begin with a byte doesn't begin with more
+pub starts-first : (c : ℕ) (l t : List ℕ) → startsWith (c ∷ []) t ≡ false → startsWith (c ∷ l) t ≡ false
+starts-first c l [] e = refl
+starts-first c l (d ∷ t) e = go (eqb d c) e
+  where
+    go : (b : Bool) → (b && true) ≡ false → (b && startsWith l t) ≡ false
+    go true q = absurd (true≢false q)
+    go false q = refl
+
 pub starts-text : (l t : List ℕ) → startsWith l t ≡ true → length l ≤ length t
 starts-text [] t e = omega arith
 starts-text (c ∷ l) [] e = let z : _≡_ {A = Bool} false true = e in let n : _≡_ {A = ℕ} 0 1 = cc in absurd (omega arith)

@@ -6,7 +6,7 @@ use mathlib.Core.List.{List, [], _∷_}
 use Prim.Native.Nat.{ℕ, zero, suc, _+_, _≤_, _<_}
 use native.Mathlib.Nat.{add-zero, zero-add, add-suc, suc-add, le-of-suc-le-suc, not-suc-le-zero}
 use lib.Dec.{eqb, ltb}
-use lib.ListN.{length, drop, getD}
+use lib.ListN.{length, getD}
 use borrow.Author.Tests.{eqb-true, ltb-true, ltb-false}
 use Rattle.text.specs.Text.{all, every}
 use Rattle.text.proofs.Tests.{both}
@@ -35,12 +35,6 @@ pub always : {A : Type 0} (f : A → Bool) (d : A) (xs : List A) → f d ≡ tru
 always f d [] h t k = h
 always f d (x ∷ xs) h t zero = both (f x) (all f xs) t .0
 always f d (x ∷ xs) h t (suc k) = always f d xs h (both (f x) (all f xs) t .1) k
-
--- the element at a place, and those after it
-pub drop-at : {A : Type 0} (d : A) (xs : List A) (k : ℕ) → k < length xs → drop k xs ≡ getD xs k d ∷ drop (suc k) xs
-drop-at d [] k h = absurd (not-suc-le-zero h)
-drop-at d (x ∷ xs) zero h = refl
-drop-at d (x ∷ xs) (suc k) h = drop-at d xs k (le-of-suc-le-suc h)
 
 -- ---- a table as a function makes it
 

@@ -49,12 +49,5 @@ pub either : (b : Bool) → (b ≡ true) ⊎ (b ≡ false)
 either true = inl refl
 either false = inr refl
 
-pub three-false : (a b c d e : Bool) → (a || b || c || d || e) ≡ false → (a ≡ false) × (b ≡ false) × (c ≡ false)
-three-false a b c d e h =
-    let l = neither (a || b || c) d (neither (a || b || c || d) e h .0) .0 in
-    let k = neither (a || b) c l in
-    let n = neither a b (k .0) in
-    (n .0, n .1, k .1)
-
 pub below? : (n m : ℕ) → (n < m) ⊎ (m ≤ n)
 below? n m = elim (decLt n m) [ yes h ↦ inl h | no h ↦ inr (omega arith) ]

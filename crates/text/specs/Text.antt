@@ -1,5 +1,6 @@
--- Texts as lists of numbers. In this order: the text of a literal; tests on every element, on two texts and on a beginning; the place of an
--- element; the parts between separators and the way back; what stands before and after a separator; a first element that passes a test.
+-- Texts as lists of numbers. In this order: the text of a literal; the tab and the line feed; tests on every element, on two texts and on a
+-- beginning; the place of an element; the parts between separators and the way back; what stands before and after a separator; a first element
+-- that passes a test.
 -- Assumes nothing.
 use Prim.Native.Nat.{ℕ, suc, _+_}
 use Prim.Native.Char.{code}
@@ -15,6 +16,12 @@ use lib.ListN.{length, drop}
 abbrev pub text : String → List ℕ
 text nil = []
 text (_⊳_ c s) = code c ∷ text s
+
+abbrev pub tab : ℕ
+tab = 9
+
+abbrev pub lineFeed : ℕ
+lineFeed = 10
 
 -- ---- tests
 

@@ -1,4 +1,5 @@
 // Writing into a lent buffer from a place in its middle onward.
+use crate::numbers::NO_ROOM;
 use crate::units::Bytes;
 use crate::units::Chars;
 ghost use Prim.Native.Nat.{_≤_};
@@ -46,7 +47,7 @@ pub fn write_text(text: &[u8], buf: &mut [u8], at: usize) -> Written
 {
     if !has_room(buf.len(), at, text.len()) {
         return Written {
-            number: 17,
+            number: NO_ROOM,
             count: Chars(0),
         };
     }

@@ -5,12 +5,12 @@ use native.Mathlib.Omega.{arith}
 use borrow.Author.Needs.{needs}
 use denote.Ref.{now}
 use lib.ListN.{length}
-use Rattle.text.specs.Text.{find}
+use Rattle.text.specs.Text.{tab, find}
 use Rattle.accounts.proofs.LineLaws.{answer-row, answer-string, tab-there}
 use Rattle.accounts.proofs.line.judge.Statement.{statement}
 use Rattle.accounts.proofs.line.judge.Tie as tie
 
-tab-is : (c : tie.After-next-at) → c .next-at .result ≡ find 9 (now (c .before .before .args .line))
+tab-is : (c : tie.After-next-at) → c .next-at .result ≡ find tab (now (c .before .before .args .line))
 tab-is c = omega (arith, c .next-at .ensures)
 
 -- neither row applies, so there is a tab

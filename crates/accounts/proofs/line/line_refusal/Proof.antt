@@ -19,13 +19,13 @@ returns-3 : tie.Need-returns-3
 returns-3 c =
     let e = c .before .before .before in
     let s = e .before .before .before in
-    sym (line-named (now (s .args .line)) (s .args .tab) (s .pre) (e .before .if1 .left) (omega (arith, e .if2 .left)) (sym (c .before .is-name .ensures) ∙ c .if3 .taken))
+    sym (line-named (now (s .args .line)) (s .args .place) (s .pre) (e .before .if1 .left) (omega (arith, e .if2 .left)) (sym (c .before .is-name .ensures) ∙ c .if3 .taken))
 
 returns-4 : tie.Need-returns-4
 returns-4 c =
     let e = c .before .before .before in
     let s = e .before .before .before in
-    sym (line-unnamed (now (s .args .line)) (s .args .tab) (s .pre) (e .before .if1 .left) (omega (arith, e .if2 .left)) (sym (c .before .is-name .ensures) ∙ c .if3 .left))
+    sym (line-unnamed (now (s .args .line)) (s .args .place) (s .pre) (e .before .if1 .left) (omega (arith, e .if2 .left)) (sym (c .before .is-name .ensures) ∙ c .if3 .left))
 
 pub line-refusal-spec : {M : Type 1} → statement M
 line-refusal-spec =

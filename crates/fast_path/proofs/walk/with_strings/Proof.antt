@@ -9,12 +9,12 @@ use Rattle.fast_path.proofs.walk.with_strings.Tie as tie
 enum-told : tie.Need-enum-told
 enum-told c = search needs
 
-two-items-requires-2 : tie.Need-two-items-requires-2
-two-items-requires-2 c κs =
+two-items-requires : tie.Need-two-items-requires
+two-items-requires c κs =
     let n = c .before .before .before .before in
     let k = n .before .before .before .before in
     let st = k .before .before .before .before .before .before in
-    let h = rw (n .next .given .1) at (k .two-items .ensures) in
+    let h = rw (n .next .given .1) at (k .two-keys .ensures) in
     let z = stored-two-size _ _ _ _ _ _ _ _ _ h (omega (arith, st .pre .0 .1)) in
     ((h .inside, omega (arith, z, h .middle-is, h .end-is, h .small, st .pre .0 .1)), st .pre .1)
 
@@ -25,8 +25,8 @@ contents-for-requires c κs =
     let n = w .before .before .before .before .before in
     let k = n .before .before .before .before in
     let a = k .before .before .before .before .before .before .args in
-    let h = rw (n .next .given .1) at (k .two-items .ensures) in
-    let y = rw (e .last .given .1) at (w .two-items2 .ensures) in
+    let h = rw (n .next .given .1) at (k .two-keys .ensures) in
+    let y = rw (e .last .given .1) at (w .two-items .ensures) in
     ordered (profileIn (a .column)) (a .fields) (a .separator) (a .s .now) (a .at) (a .out .now) _ _ _ _ h _ _ _ _ y
 
 same-length : tie.Need-same-length
@@ -44,15 +44,15 @@ returns c =
     let k = n .before .before .before .before in
     let st = k .before .before .before .before .before .before in
     let a = st .args in
-    let h = rw (n .next .given .1) at (k .two-items .ensures) in
-    let y = rw (e .last .given .1) at (w .two-items2 .ensures) in
+    let h = rw (n .next .given .1) at (k .two-keys .ensures) in
+    let y = rw (e .last .given .1) at (w .two-items .ensures) in
     all-strings (profileIn (a .column)) (a .fields) (a .separator) (a .s .now) (a .at) (a .out .now) _ _ _ _ h _ _ _ _ y (st .pre .0 .1) (c .before .if1 .taken) _ (c .contents-for .ensures)
 
 returns-2 : tie.Need-returns-2
 returns-2 c =
     let k = c .before .before .before .before in
     let a = k .before .before .before .before .before .before .args in
-    no-keys (profileIn (a .column)) (a .fields) (a .separator) (a .s .now) (a .at) (a .out .now) (rw (c .enum-told .given .1) at (k .two-items .ensures))
+    no-keys (profileIn (a .column)) (a .fields) (a .separator) (a .s .now) (a .at) (a .out .now) (rw (c .enum-told .given .1) at (k .two-keys .ensures))
 
 returns-3 : tie.Need-returns-3
 returns-3 c =
@@ -60,8 +60,8 @@ returns-3 c =
     let n = w .before .before .before .before .before in
     let k = n .before .before .before .before in
     let a = k .before .before .before .before .before .before .args in
-    let h = rw (n .next .given .1) at (k .two-items .ensures) in
-    no-hashes (profileIn (a .column)) (a .fields) (a .separator) (a .s .now) (a .at) (a .out .now) _ _ _ _ h (rw (c .enum-told2 .given .1) at (w .two-items2 .ensures))
+    let h = rw (n .next .given .1) at (k .two-keys .ensures) in
+    no-hashes (profileIn (a .column)) (a .fields) (a .separator) (a .s .now) (a .at) (a .out .now) _ _ _ _ h (rw (c .enum-told2 .given .1) at (w .two-items .ensures))
 
 returns-4 : tie.Need-returns-4
 returns-4 c =
@@ -70,8 +70,8 @@ returns-4 c =
     let n = w .before .before .before .before .before in
     let k = n .before .before .before .before in
     let a = k .before .before .before .before .before .before .args in
-    let h = rw (n .next .given .1) at (k .two-items .ensures) in
-    let y = rw (e .last .given .1) at (w .two-items2 .ensures) in
+    let h = rw (n .next .given .1) at (k .two-keys .ensures) in
+    let y = rw (e .last .given .1) at (w .two-items .ensures) in
     text-left (profileIn (a .column)) (a .fields) (a .separator) (a .s .now) (a .at) (a .out .now) _ _ _ _ h _ _ _ _ y (c .if1 .left)
 
 pub with-strings-spec : {M : Type 1} → statement M
@@ -85,7 +85,7 @@ with-strings-spec =
     (λ c. search needs)
     (λ c. search needs)
     (λ c. search needs)
-    two-items-requires-2
+    two-items-requires
     (λ c. search needs)
     (λ c. search needs)
     contents-for-requires

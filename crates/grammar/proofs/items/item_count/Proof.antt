@@ -8,8 +8,8 @@ use lib.ListN.{length}
 use Rattle.text.specs.Text.{cut}
 use Rattle.text.proofs.Scanning.{find-from-le}
 use Rattle.text.proofs.Splitting.{from-past}
-use Rattle.grammar.specs.Items.{Item, items}
-use Rattle.grammar.proofs.ItemLaws.{itemsFrom, items-start, items-to}
+use Rattle.grammar.specs.Items.{Item, items, itemsFrom}
+use Rattle.grammar.proofs.ItemLaws.{items-start, items-to}
 use Rattle.grammar.proofs.items.item_count.Statement.{statement}
 use Rattle.grammar.proofs.items.item_count.Tie as tie
 

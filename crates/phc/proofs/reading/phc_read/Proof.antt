@@ -32,6 +32,7 @@ phc-read-spec =
     (λ c κs. search needs)
     (λ c. search needs)
     returns
+    (λ c. search needs)
     returns-2
     (λ c κs. search needs)
     (λ c. search needs)

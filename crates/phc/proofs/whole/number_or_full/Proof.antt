@@ -11,4 +11,4 @@ returns-2 : tie.Need-returns-2
 returns-2 c = rw (← c .before .read .ensures, ne-eqb _ 0 (c .if1 .left))
 
 pub number-or-full-spec : {M : Type 1} → statement M
-number-or-full-spec = tie.close (tie.spec (λ c κs. search needs) returns (λ c. search needs) returns-2)
+number-or-full-spec = tie.close (tie.spec (λ c κs. search needs) (λ c. search needs) returns (λ c. search needs) returns-2)
