@@ -5,9 +5,11 @@ use crate::numbers::LINE_TOO_LONG;
 use fast_path::reader::read;
 use grammar::names::is_name;
 use text::scan::next_at;
+ghost use Prim.Native.Nat.{_≤_};
 ghost use mathlib.Core.Path.{_≡_};
+ghost use lib.ListN.{length};
 ghost use Rattle.text.specs.Text.{tab, find};
-ghost use Rattle.accounts.specs.Lines.{lineRefusal, lineAnswer};
+ghost use Rattle.accounts.specs.Lines.{longestLine, lineRefusal, lineAnswer};
 
 // The number of a line, and the kind of its string: 1 parameters, 2 salt, 3 hash; 0 where the line is refused.
 pub struct Answer {
@@ -15,14 +17,11 @@ pub struct Answer {
     pub kind: u8,
 }
 
-// Rows 18 and 19, given the place of the line's first tab; 0 where neither applies.
-fn line_refusal(line: &[u8], place: usize) -> u8
-    requires { ⌜ place ≡ find tab (now line) ⌝ }
+// Row 19 of a line that is not too long, given the place of its first tab; 0 where it doesn't apply.
+fn name_refusal(line: &[u8], place: usize) -> u8
+    requires { ⌜ (place ≡ find tab (now line)) × (length (now line) ≤ longestLine) ⌝ }
     ensures { λ r. ⌜ r ≡ lineRefusal (now (line .entry)) ⌝ }
 {
-    if LONGEST_LINE < line.len() {
-        return LINE_TOO_LONG;
-    }
     if line.len() <= place {
         return BAD_NAME;
     }
@@ -36,8 +35,15 @@ fn line_refusal(line: &[u8], place: usize) -> u8
 pub fn judge(line: &[u8]) -> Answer
     ensures { λ r. ⌜ r ≡ lineAnswer (now (line .entry)) ⌝ }
 {
+    // Known by the length: a long line is refused without a look at its bytes.
+    if LONGEST_LINE < line.len() {
+        return Answer {
+            number: LINE_TOO_LONG,
+            kind: 0,
+        };
+    }
     let tab = next_at(line, 0, b'\t');
-    let number = line_refusal(line, tab);
+    let number = name_refusal(line, tab);
     if number != 0 {
         return Answer { number, kind: 0 };
     }

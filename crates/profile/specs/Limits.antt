@@ -104,8 +104,12 @@ absentMeans = 19
 abbrev pub argon2Usual : Usual
 argon2Usual = record { version = Number 19; m = 65536; t = 2; p = 1 }
 
+-- what an omitted t means for pbkdf2, and the short writer's t
+abbrev pub omittedT : ℕ
+omittedT = 20000
+
 abbrev pub pbkdf2Usual : Usual
-pbkdf2Usual = record { version = Absent; m = 0; t = 20000; p = 0 }
+pbkdf2Usual = record { version = Absent; m = 0; t = omittedT; p = 0 }
 
 -- m by itself is at least 1; that it is at least 8p is a row of its own, after the three numbers
 abbrev pub argon2 : List ℕ → Profile
@@ -133,7 +137,7 @@ pbkdf2 name =
       versions = [];
       unwritten = 0;
       m = Fixed 0;
-      t = Omitted 100 largest32 20000;
+      t = Omitted 100 largest32 omittedT;
       p = Fixed 0;
       keyid = sized 0 8;
       ad = Barred;

@@ -89,9 +89,10 @@ returns-3 c =
     let l = e .before .before .before in
     let s = at-clear l in
     let b = now (s .args .buf) in
-    writer-over (asked (e .before)) (not-false _ (e .if2 .left)) _
-    (p .put-string .ensures .left ∙ ap (over (take (length b - s .args .at) (drop (s .args .at) b)) 0) (sym (text-by (fields s) (entry l) (l .before .before .column-of .ensures) (clear l))))
-    ∙ cleared l
+    _∙_ {b = put b (s .args .at) (formatted editionTwo (fields s))}
+    (writer-over (asked (e .before)) (not-false _ (e .if2 .left)) _
+    (p .put-string .ensures .left ∙ ap (over (take (length b - s .args .at) (drop (s .args .at) b)) 0) (sym (text-by (fields s) (entry l) (l .before .before .column-of .ensures) (clear l)))))
+    (cleared l)
 
 pub write-spec : {M : Type 1} → statement M
 write-spec =

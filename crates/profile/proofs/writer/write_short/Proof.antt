@@ -1,7 +1,11 @@
 -- `profile::writer::write_short` meets its contract. Assumes nothing.
+use mathlib.Core.List.{[]}
 use mathlib.Core.Path.{_∙_}
 use borrow.Author.Needs.{needs}
 use denote.Ref.{now}
+use Rattle.profile.specs.Limits.{editionTwo}
+use Rattle.profile.specs.Fields.{fieldSet}
+use Rattle.profile.specs.Entries.{writing}
 use Rattle.profile.proofs.Shorts.{short-by}
 use Rattle.profile.proofs.writer.write_short.Statement.{statement}
 use Rattle.profile.proofs.writer.write_short.Tie as tie
@@ -11,7 +15,8 @@ returns c =
     let w = c .before .before in
     let u = w .before .before .before .before in
     let a = u .before .before .before .before .args in
-    w .write .ensures ∙ short-by (a .id) (now (a .salt)) (now (a .output)) (now (a .buf)) (a .at) (u .usual-fields .result) (u .usual-fields .ensures)
+    _∙_ {b = writing editionTwo (fieldSet (u .usual-fields .result) [] [] (now (a .salt)) (now (a .output))) (now (a .buf)) (a .at)}
+    (w .write .ensures) (short-by (a .id) (now (a .salt)) (now (a .output)) (now (a .buf)) (a .at) (u .usual-fields .result) (u .usual-fields .ensures))
 
 pub write-short-spec : {M : Type 1} → statement M
 write-short-spec =

@@ -62,7 +62,8 @@ returns-4 c =
     let e = c .before in
     let b = e .before in
     let s = at-3 b in
-    sym (past-9 (b .before)
+    sym {b = c .bad-byte-strings .result}
+    (past-9 (b .before)
     ∙ rows-pass (numbers s) (strings s) (clear (numbers s) refl (sym (b .bad-numbers .ensures) ∙ e .if3 .left))
     ∙ sym (c .bad-byte-strings .ensures))
 
