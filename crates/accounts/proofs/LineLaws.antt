@@ -13,7 +13,7 @@ use Rattle.text.proofs.Rows.{clear}
 use Rattle.text.proofs.Splitting.{cut-before, cut-after, found, unfound, find-inside}
 use Rattle.text.proofs.Writing.{tail-part}
 use Rattle.grammar.specs.Rules.{isName}
-use Rattle.profile.specs.Limits.{editionTwo}
+use Rattle.table.specs.Limits.{editionTwo}
 use Rattle.profile.specs.Entries.{reading}
 use Rattle.profile.specs.declared.fields.Reading.{Reading}
 use Rattle.accounts.specs.Lines.{nameOf, stringOf, lineRows, lineRefusal, lineAnswer, longestLine}

@@ -13,7 +13,7 @@ use borrow.Author.Tests.{eqb-true, ne-eqb}
 use Rattle.text.specs.Place.{Outcome, outcome, refused, over, put, putAfter}
 use Rattle.text.proofs.Over.{over-start, length-over}
 use Rattle.text.proofs.Writing.{put-clear, put-refused}
-use Rattle.profile.specs.Limits.{editionTwo, room}
+use Rattle.table.specs.Limits.{editionTwo, room}
 use Rattle.profile.specs.Fields.{FieldSet, writeBytes}
 use Rattle.profile.specs.Reader.{answer, fieldsOf}
 use Rattle.profile.specs.Entries.{kindOf, reading}

@@ -16,12 +16,11 @@ use Rattle.decimal.specs.declared.reader.Limited.{Limited}
 use Rattle.decimal.specs.declared.reader.Limited.the-variants.{Malformed, Outside, Value}
 use Rattle.grammar.specs.Bytes.{dollar}
 use Rattle.grammar.specs.Rules.{versionReading, isVersion}
-use Rattle.profile.specs.Limits.{Profile, inRange, idOf, profileOf}
-use Rattle.profile.specs.Fields.{leftOut}
-use Rattle.profile.specs.declared.limits.NumberRule.{NumberRule}
-use Rattle.profile.specs.declared.limits.BytesRule.{BytesRule}
-use Rattle.profile.specs.declared.fields.Version.{Version}
-use Rattle.profile.specs.declared.fields.Version.the-variants.{Absent, Number}
+use Rattle.table.specs.Limits.{Profile, inRange, idOf, profileOf, leftOut}
+use Rattle.table.specs.declared.limits.NumberRule.{NumberRule}
+use Rattle.table.specs.declared.limits.BytesRule.{BytesRule}
+use Rattle.table.specs.declared.version.Version.{Version}
+use Rattle.table.specs.declared.version.Version.the-variants.{Absent, Number}
 use Rattle.profile.specs.declared.fields.Fields.{Fields}
 use Rattle.fast_path.specs.Walk.{Taken, taken, numeralIn, writtenNumber, unwritten, numberIn, writtenBytes, bytesIn, allowed, versionIn, numbersIn, headIn, withStrings, afterId, walked}
 

@@ -6,10 +6,10 @@ use mathlib.Core.Path.{_≡_}
 use mathlib.Core.List.{List, [], _∷_, _++_}
 use native.Mathlib.Omega.{arith}
 use lib.ListN.{length, length-append}
-use Rattle.profile.specs.Limits.{profileOf, editionTwo}
+use Rattle.table.specs.Limits.{profileOf, editionTwo}
+use Rattle.table.specs.declared.limits.BytesRule.{BytesRule}
 use Rattle.profile.specs.Reader.{fieldsOf}
 use Rattle.profile.specs.Writer.{bytesAllowed}
-use Rattle.profile.specs.declared.limits.BytesRule.{BytesRule}
 use Rattle.profile.proofs.Table.{edition-two-sound}
 use Rattle.profile.proofs.Accepted.{accepted}
 use Rattle.fast_path.specs.WalkSteps.{most}

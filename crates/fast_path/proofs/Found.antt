@@ -5,19 +5,19 @@ use mathlib.Core.Bool.{true, false, not, _&&_}
 use mathlib.Core.List.{List, [], _∷_, _++_}
 use mathlib.Core.Option.{some}
 use mathlib.Core.Path.{_≡_, refl, sym, _∙_, ap, subst}
-use lib.Dec.{leb, eqb}
+use lib.Dec.{leb}
 use lib.ListN.{take, drop, take-append-drop}
 use borrow.Author.Tests.{leb-true}
 use Rattle.text.specs.Text.{text, all, empty, find, isByte, startsWith}
 use Rattle.text.proofs.Starts.{starts-is}
 use Rattle.text.proofs.Options.{Holds, holds-then, holds-map, holds-if}
 use Rattle.text.proofs.Lists.{empty-nil}
-use Rattle.profile.specs.Limits.{Profile, inRange, versionAllowed, idOf, profileOf}
+use Rattle.table.specs.Limits.{Profile, inRange, versionAllowed, idOf, profileOf}
+use Rattle.table.specs.declared.version.Version.{Version}
 use Rattle.profile.specs.Fields.{FieldSet, fieldSet, writeBytes, writeVersion}
 use Rattle.profile.specs.Sound.{soundNumber, sound}
 use Rattle.profile.specs.Writer.{bytesAllowed, OfBytes, Allows, Permitted, formatted}
 use Rattle.profile.specs.PieceTexts.{tagged, piecesText}
-use Rattle.profile.specs.declared.fields.Version.{Version}
 use Rattle.profile.specs.declared.fields.Fields.{Fields}
 use Rattle.profile.proofs.Texts.{formatted-is}
 use Rattle.profile.proofs.Allows.{here}

@@ -10,7 +10,7 @@ use Rattle.text.specs.Text.{text, all, has, startsWith}
 use Rattle.text.proofs.Tests.{both}
 use Rattle.text.proofs.Starts.{starts-without, Begins, differ, starts-differ}
 use Rattle.grammar.specs.Pieces.{Slot}
-use Rattle.profile.specs.Limits.{Profile}
+use Rattle.table.specs.Limits.{Profile}
 use Rattle.profile.specs.Fields.{FieldSet, writeNumber, writeBytes, writeVersion}
 use Rattle.profile.specs.PieceTexts.{tagged, itemsText, dollared, piecesText}
 use Rattle.profile.specs.declared.fields.Fields.{Fields}

@@ -15,7 +15,7 @@ use Rattle.text.proofs.Tests.{to-within}
 use Rattle.text.proofs.Runs.{run-go, run-stop, run-past, run-all, run-length, run-first}
 use Rattle.decimal.specs.Decimal.{isDigit, isUnsigned, valueFrom, value}
 use Rattle.decimal.proofs.DigitSteps.{unsigned-none, unsigned-zero, unsigned-other, value-grows}
-use Rattle.profile.specs.Limits.{largest32}
+use Rattle.table.specs.Limits.{largest32}
 use Rattle.fast_path.specs.Walk.{numeralIn}
 use Rattle.fast_path.specs.WalkSteps.{digitsAt, Counted}
 

@@ -6,7 +6,7 @@ use mathlib.Core.List.{List, [], _∷_, _++_}
 use mathlib.Core.Option.{Option, some}
 use mathlib.Core.Path.{_≡_, refl, sym, _∙_, ap, subst}
 use native.Mathlib.Omega.{arith}
-use lib.Dec.{leb, eqb}
+use lib.Dec.{leb}
 use lib.ListN.{length, take, drop, take-append-drop}
 use borrow.Author.Tests.{eq-eqb}
 use Rattle.text.specs.Text.{text, within, all, empty, isByte, find, run, startsWith, andThen, broken}
@@ -21,16 +21,15 @@ use Rattle.decimal.proofs.DecimalLaws.{digits-value}
 use Rattle.grammar.specs.Bytes.{dollar}
 use Rattle.grammar.specs.Pieces.{Slot, isVersionPiece}
 use Rattle.grammar.specs.Rules.{isVersion}
-use Rattle.profile.specs.Limits.{inRange, isSize, versionAllowed, largest32}
-use Rattle.profile.specs.Fields.{leftOut, writeNumber, writeBytes, readVersion, writeVersion}
+use Rattle.table.specs.Limits.{inRange, isSize, versionAllowed, largest32, leftOut}
+use Rattle.table.specs.declared.limits.NumberRule.{NumberRule}
+use Rattle.table.specs.declared.limits.NumberRule.the-variants.{Needed, Omitted, Fixed}
+use Rattle.table.specs.declared.limits.BytesRule.{BytesRule}
+use Rattle.table.specs.declared.version.Version.{Version}
+use Rattle.profile.specs.Fields.{writeNumber, writeBytes, readVersion, writeVersion}
 use Rattle.profile.specs.Sound.{soundNumber}
 use Rattle.profile.specs.Writer.{bytesAllowed}
 use Rattle.profile.specs.PieceTexts.{tagged}
-use Rattle.profile.specs.declared.limits.NumberRule.{NumberRule}
-use Rattle.profile.specs.declared.limits.NumberRule.the-variants.{Needed, Omitted, Fixed}
-use Rattle.profile.specs.declared.limits.BytesRule.{BytesRule}
-use Rattle.profile.specs.declared.fields.Version.{Version}
-use Rattle.profile.specs.declared.fields.Version.the-variants.{Absent}
 use Rattle.profile.proofs.Codecs.{version-back}
 use Rattle.fast_path.specs.Walk.{Taken, numeralIn, writtenNumber, unwritten, numberIn, bytesIn, versionIn}
 use Rattle.fast_path.proofs.ItemTexts.{Stands}

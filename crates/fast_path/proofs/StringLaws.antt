@@ -19,10 +19,10 @@ use Rattle.text.proofs.Runs.{run-length}
 use Rattle.text.proofs.Starts.{starts-first}
 use Rattle.text.proofs.Lists.{length-empty, length-filled}
 use Rattle.b64.specs.B64.{inAlphabet, canonical}
-use Rattle.profile.specs.Limits.{Profile, isSize, nobody, profileOf, editionTwo}
+use Rattle.table.specs.Limits.{Profile, isSize, nobody, profileOf, editionTwo}
+use Rattle.table.specs.declared.limits.BytesRule.{BytesRule}
+use Rattle.table.specs.declared.limits.BytesRule.the-variants.{Sized, Barred}
 use Rattle.profile.specs.Fields.{FieldSet, fieldSet}
-use Rattle.profile.specs.declared.limits.BytesRule.{BytesRule}
-use Rattle.profile.specs.declared.limits.BytesRule.the-variants.{Sized, Barred}
 use Rattle.profile.specs.declared.fields.Fields.{Fields}
 use Rattle.fast_path.specs.Walk.{Taken, taken, writtenBytes, bytesIn, Pair, pairIn, keysIn, hashesIn, withStrings}
 use Rattle.fast_path.specs.WalkSteps.{textAt, bytesAt, Ran, most, Stored, StoredTwo, contentsFor, roomy, StoredAll}

@@ -22,16 +22,16 @@ use Rattle.decimal.specs.Decimal.{isDigit, isUnsigned, digits}
 use Rattle.decimal.proofs.DecimalLaws.{unsigned-cases, value-digits, digits-unsigned}
 use Rattle.grammar.specs.Bytes.{isValueByte, dollar}
 use Rattle.grammar.specs.Rules.{isVersion}
-use Rattle.profile.specs.Limits.{inRange, versionAllowed, largest32}
-use Rattle.profile.specs.Fields.{leftOut, writeNumber, writeBytes, writeVersion}
+use Rattle.table.specs.Limits.{inRange, versionAllowed, largest32, leftOut}
+use Rattle.table.specs.declared.limits.NumberRule.{NumberRule}
+use Rattle.table.specs.declared.limits.NumberRule.the-variants.{Needed, Omitted, Fixed}
+use Rattle.table.specs.declared.limits.BytesRule.{BytesRule}
+use Rattle.table.specs.declared.version.Version.{Version}
+use Rattle.table.specs.declared.version.Version.the-variants.{Absent, Number}
+use Rattle.profile.specs.Fields.{writeNumber, writeBytes, writeVersion}
 use Rattle.profile.specs.Sound.{soundNumber, soundVersions}
 use Rattle.profile.specs.Writer.{bytesAllowed}
 use Rattle.profile.specs.PieceTexts.{tagged}
-use Rattle.profile.specs.declared.limits.NumberRule.{NumberRule}
-use Rattle.profile.specs.declared.limits.NumberRule.the-variants.{Needed, Omitted, Fixed}
-use Rattle.profile.specs.declared.limits.BytesRule.{BytesRule}
-use Rattle.profile.specs.declared.fields.Version.{Version}
-use Rattle.profile.specs.declared.fields.Version.the-variants.{Absent, Number}
 use Rattle.profile.proofs.Codecs.{digits-values, version-forth}
 use Rattle.fast_path.specs.Walk.{taken, numeralIn, writtenNumber, unwritten, numberIn, writtenBytes, bytesIn, allowed, versionIn}
 use Rattle.fast_path.proofs.Closed.{Separator, Closed, run-closed}

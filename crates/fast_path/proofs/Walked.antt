@@ -15,7 +15,7 @@ use Rattle.text.proofs.Starts.{Begins, find-behind}
 use Rattle.b64.specs.B64.{sextet, inAlphabet, encode}
 use Rattle.grammar.specs.Bytes.{isNameByte, isValueByte}
 use Rattle.grammar.proofs.ItemLaws.{name-free}
-use Rattle.profile.specs.Limits.{Profile}
+use Rattle.table.specs.Limits.{Profile}
 use Rattle.profile.specs.Fields.{FieldSet, writeNumber, writeBytes, writeVersion}
 use Rattle.profile.specs.Reader.{answer, fieldsOf}
 use Rattle.profile.specs.Sound.{sound}
@@ -28,7 +28,7 @@ use Rattle.profile.proofs.Written.{written}
 use Rattle.profile.proofs.Accepted.{accepted}
 use Rattle.fast_path.specs.Walk.{taken, versionIn, numbersIn, pairIn, keysIn, hashesIn, headIn, afterId, walked, WalkAgrees}
 use Rattle.fast_path.proofs.Closed.{Separator}
-use Rattle.fast_path.proofs.ItemTexts.{Named, separatorAfter, items, separators, begins-tagged, begins-items, separator-after, separators-separator, Behind, closed-items, starts-fresh, costItems, keyItems, fiveItems, hashesText, restText, pieces-row}
+use Rattle.fast_path.proofs.ItemTexts.{Named, separatorAfter, items, separators, begins-tagged, begins-items, separator-after, separators-separator, Behind, starts-fresh, costItems, keyItems, fiveItems, hashesText, restText, pieces-row}
 use Rattle.fast_path.proofs.Taken.{encode-alphabet, bytes-reads, version-reads, number-item, bytes-item}
 use Rattle.fast_path.proofs.Found.{walk-sound}
 

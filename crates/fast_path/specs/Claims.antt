@@ -4,7 +4,7 @@ use Prim.Native.Nat.{ℕ, _≤_}
 use mathlib.Core.Path.{_≡_}
 use mathlib.Core.List.{List}
 use lib.ListN.{length}
-use Rattle.profile.specs.Limits.{editionTwo}
+use Rattle.table.specs.Limits.{editionTwo}
 use Rattle.profile.specs.Reader.{answer, fieldsOf}
 use Rattle.fast_path.specs.Contents.{joinedBytes}
 use Rattle.fast_path.specs.Walk.{WalkAgrees}

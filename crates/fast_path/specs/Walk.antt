@@ -13,13 +13,13 @@ use Rattle.b64.specs.B64.{inAlphabet, canonical, decode}
 use Rattle.decimal.specs.Decimal.{isDigit, isUnsigned, value}
 use Rattle.grammar.specs.Bytes.{dollar, comma}
 use Rattle.grammar.specs.Rules.{isVersion}
-use Rattle.profile.specs.Limits.{Profile, inRange, isSize, versionAllowed, idOf, profileOf, largest32}
-use Rattle.profile.specs.Fields.{FieldSet, fieldSet, misplacedNumber, given, leftOut, readVersion}
+use Rattle.table.specs.Limits.{Profile, inRange, isSize, versionAllowed, idOf, profileOf, largest32, misplacedNumber, given, leftOut}
+use Rattle.table.specs.declared.limits.NumberRule.{NumberRule}
+use Rattle.table.specs.declared.limits.BytesRule.{BytesRule}
+use Rattle.table.specs.declared.version.Version.{Version}
+use Rattle.table.specs.declared.version.Version.the-variants.{Absent}
+use Rattle.profile.specs.Fields.{FieldSet, fieldSet, readVersion}
 use Rattle.profile.specs.Reader.{answer, fieldsOf}
-use Rattle.profile.specs.declared.limits.NumberRule.{NumberRule}
-use Rattle.profile.specs.declared.limits.BytesRule.{BytesRule}
-use Rattle.profile.specs.declared.fields.Version.{Version}
-use Rattle.profile.specs.declared.fields.Version.the-variants.{Absent}
 use Rattle.profile.specs.declared.fields.Fields.{Fields}
 
 -- what was taken, the separator that stands before the next item, `$` before the first and a comma before the others, and the text after it

@@ -13,11 +13,11 @@ use Rattle.text.specs.Text.{run}
 use Rattle.b64.specs.B64.{inAlphabet, canonical, decode}
 use Rattle.decimal.specs.Decimal.{isDigit, value}
 use Rattle.grammar.specs.Bytes.{dollar}
-use Rattle.profile.specs.Limits.{Profile}
+use Rattle.table.specs.Limits.{Profile}
+use Rattle.table.specs.declared.limits.BytesRule.{BytesRule}
+use Rattle.table.specs.declared.limits.BytesRule.the-variants.{Sized, Barred}
+use Rattle.table.specs.declared.version.Version.{Version}
 use Rattle.profile.specs.Fields.{FieldSet}
-use Rattle.profile.specs.declared.limits.BytesRule.{BytesRule}
-use Rattle.profile.specs.declared.limits.BytesRule.the-variants.{Sized, Barred}
-use Rattle.profile.specs.declared.fields.Version.{Version}
 use Rattle.profile.specs.declared.fields.Fields.{Fields}
 use Rattle.fast_path.specs.Contents.{joinedBytes, refusedContents}
 use Rattle.fast_path.specs.Walk.{Taken, taken, numeralIn, Pair}

@@ -2,7 +2,7 @@
 use crate::begin::begins;
 use crate::items::BytesItem;
 use crate::items::bytes_item;
-use profile::limits::BytesRule;
+use table::limits::BytesRule;
 ghost use Prim.Native.Nat.{_+_, _≤_};
 ghost use mathlib.Core.Path.{_≡_};
 ghost use mathlib.Core.Bool.{false, cond};

@@ -12,11 +12,11 @@ use Rattle.text.specs.Place.{putAfter}
 use Rattle.text.proofs.Tests.{is-false}
 use Rattle.text.proofs.Table.{always}
 use Rattle.text.proofs.Writing.{after-number}
-use Rattle.profile.specs.Limits.{Profile, nobody, profileOf, editionTwo, versionAllowed}
+use Rattle.table.specs.Limits.{Profile, nobody, profileOf, editionTwo, versionAllowed}
+use Rattle.table.specs.declared.version.Version.the-variants.{Number}
 use Rattle.profile.specs.Reader.{answer, fieldsOf}
 use Rattle.profile.specs.Writer.{refusal}
 use Rattle.profile.specs.Entries.{reading}
-use Rattle.profile.specs.declared.fields.Version.the-variants.{Number}
 use Rattle.profile.proofs.ReadLaws.{reading-number}
 use Rattle.fast_path.specs.Contents.{joinedBytes}
 use Rattle.fast_path.specs.Claims.{mostBytes}

@@ -7,7 +7,7 @@ use native.Mathlib.Omega.{arith}
 use lib.ListN.{length}
 use Rattle.text.specs.Place.{Outcome, over, put, putAfter}
 use Rattle.text.proofs.Writing.{put-refused, put-clear, put-full, put-done}
-use Rattle.profile.specs.Limits.{editionTwo}
+use Rattle.table.specs.Limits.{editionTwo}
 use Rattle.profile.specs.Entries.{reading}
 use Rattle.profile.specs.declared.fields.Reading.{Reading}
 use Rattle.phc.specs.Records.{recordBytes, recordLength, recorded}

@@ -8,7 +8,7 @@ use lib.ListN.{length}
 use Rattle.text.specs.Place.{outcome}
 use Rattle.text.proofs.Writing.{after-counted}
 use Rattle.b64.proofs.B64Laws.{length-encode}
-use Rattle.profile.specs.Limits.{editionTwo, room}
+use Rattle.table.specs.Limits.{editionTwo, room}
 use Rattle.profile.specs.Fields.{FieldSet, chosen, writeBytes}
 use Rattle.profile.specs.Reader.{answer, fieldsOf}
 use Rattle.profile.specs.Writer.{Allows, refusal, formatted}

@@ -10,7 +10,7 @@ use lib.ListN.{length}
 use borrow.Author.Tests.{eqb-true, eqb-false, eq-eqb}
 use Rattle.text.specs.Place.{Outcome, over, putAfter}
 use Rattle.text.proofs.Writing.{put-refused, put-clear, put-full, put-done, after-zero, after-number}
-use Rattle.profile.specs.Limits.{editionTwo}
+use Rattle.table.specs.Limits.{editionTwo}
 use Rattle.profile.specs.Reader.{answer, fieldsOf}
 use Rattle.profile.specs.Entries.{reading}
 use Rattle.profile.proofs.ReadLaws.{reading-number}

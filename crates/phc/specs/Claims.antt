@@ -5,7 +5,7 @@ use mathlib.Core.Path.{_≡_}
 use mathlib.Core.Bool.{cond}
 use mathlib.Core.List.{List}
 use lib.ListN.{length}
-use Rattle.profile.specs.Limits.{profileOf, editionTwo}
+use Rattle.table.specs.Limits.{profileOf, editionTwo}
 use Rattle.profile.specs.Writer.{refusal}
 use Rattle.profile.specs.Entries.{reading}
 use Rattle.fast_path.specs.Claims.{mostBytes}

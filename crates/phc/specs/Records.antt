@@ -5,11 +5,11 @@ use mathlib.Core.Bool.{cond}
 use mathlib.Core.List.{List, [], _∷_, _++_}
 use lib.Dec.{eqb}
 use Rattle.text.specs.Place.{Outcome, putAfter}
-use Rattle.profile.specs.Limits.{editionTwo}
+use Rattle.table.specs.Limits.{editionTwo}
+use Rattle.table.specs.declared.version.Version.{Version}
+use Rattle.table.specs.declared.version.Version.the-variants.{Absent, Number}
 use Rattle.profile.specs.Reader.{fieldsOf}
 use Rattle.profile.specs.Entries.{reading}
-use Rattle.profile.specs.declared.fields.Version.{Version}
-use Rattle.profile.specs.declared.fields.Version.the-variants.{Absent, Number}
 use Rattle.profile.specs.declared.fields.Reading.{Reading}
 use Rattle.fast_path.specs.Contents.{joinedBytes, counted}
 use Rattle.fast_path.specs.declared.contents.Contents.{Contents}

@@ -6,7 +6,7 @@ use profile::fields::ByteString;
 use profile::reader::byte_string;
 use text::numbers::NO_ROOM;
 ghost use mathlib.Core.Path.{_≡_};
-ghost use Rattle.profile.specs.Limits.{editionTwo};
+ghost use Rattle.table.specs.Limits.{editionTwo};
 ghost use Rattle.profile.specs.Entries.{decoded};
 ghost use Rattle.profile.specs.declared.fields.ByteString.the-variants.{Keyid, Data, Salt, Output};
 ghost use Rattle.phc.specs.Records.{recorded, coded};

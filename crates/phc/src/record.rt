@@ -2,7 +2,7 @@
 // four byte strings after it.
 use fast_path::contents::Contents;
 use profile::fields::Reading;
-use profile::fields::Version;
+use table::version::Version;
 use text::place::write_text;
 ghost use Prim.Native.Nat.{_%_, _≤_};
 ghost use mathlib.Core.Path.{_≡_};

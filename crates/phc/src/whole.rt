@@ -7,7 +7,7 @@ use text::numbers::NO_ROOM;
 ghost use mathlib.Core.Path.{_≡_};
 ghost use mathlib.Core.Bool.{cond};
 ghost use lib.Dec.{eqb};
-ghost use Rattle.profile.specs.Limits.{editionTwo};
+ghost use Rattle.table.specs.Limits.{editionTwo};
 ghost use Rattle.profile.specs.Entries.{reading};
 ghost use Rattle.phc.specs.Records.{whole, recordedWhole};
 

@@ -1,9 +1,9 @@
 // Writing: the string of the nine fields.
 use profile::fields::Fields;
-use profile::fields::Version;
 use profile::writer::write;
+use table::version::Version;
 ghost use mathlib.Core.Path.{_≡_};
-ghost use Rattle.profile.specs.Limits.{editionTwo};
+ghost use Rattle.table.specs.Limits.{editionTwo};
 ghost use Rattle.profile.specs.Entries.{writing};
 ghost use Rattle.phc.specs.Records.{coded};
 ghost use Rattle.phc.specs.Writing.{versionField, handed};

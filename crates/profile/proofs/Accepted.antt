@@ -15,22 +15,20 @@ use Rattle.text.proofs.Tests.{both, and-true, neither, not-of-true, is-true}
 use Rattle.text.proofs.Rows.{Clear, clear}
 use Rattle.text.proofs.Lists.{empty-nil, head-passes}
 use Rattle.b64.specs.B64.{canonical, decode}
-use Rattle.grammar.specs.Bytes.{isText}
 use Rattle.grammar.specs.Limits.{longestOutput, mostItems}
 use Rattle.grammar.specs.Pieces.{Slot, Pieces, isVersionPiece, belongs, afterFirst, pieces, string}
 use Rattle.grammar.specs.Items.{Item, items, itemsOf, paramsText}
 use Rattle.grammar.specs.Rules.{isValue, isItem, isParams, isOutput, pieceRows, grammarRows}
 use Rattle.grammar.specs.declared.places.Piece.the-variants.{Version, Params, Salt, Output}
-use Rattle.grammar.proofs.ValueBytes.{canonical-values}
 use Rattle.grammar.proofs.ItemLaws.{item-value, params-items}
 use Rattle.grammar.proofs.PieceLaws.{string-pieces}
 use Rattle.grammar.proofs.Reading.{whole-starts}
-use Rattle.profile.specs.Limits.{Profile, idOf, profileOf, versionAllowed}
+use Rattle.table.specs.Limits.{Profile, idOf, profileOf, versionAllowed}
+use Rattle.table.specs.declared.limits.BytesRule.{BytesRule}
 use Rattle.profile.specs.Fields.{isSized, isBytes, readBytes, writeBytes, readVersion}
 use Rattle.profile.specs.Reader.{names, named, itemValue, slots, strangers, slotAt, misplaced, profileRows, answer, carried, fieldsOf}
 use Rattle.profile.specs.Writer.{Permitted, itemList, fieldSlots, fieldPieces, formatted}
 use Rattle.profile.specs.Sound.{sound}
-use Rattle.profile.specs.declared.limits.BytesRule.{BytesRule}
 use Rattle.profile.proofs.Codecs.{number-back, bytes-back, value-filled, output-filled, version-back}
 use Rattle.profile.proofs.Slots.{list-slots}
 use Rattle.profile.proofs.Table.{entry-at, name-of}

@@ -6,7 +6,7 @@ use mathlib.Core.Path.{_≡_, refl}
 use borrow.Author.Tests.{ltb-false, le-ltb}
 use Rattle.text.proofs.Tests.{not-of-true, is-true}
 use Rattle.text.proofs.Rows.{clear, zero-of}
-use Rattle.profile.specs.Limits.{Profile, inRange, versionAllowed, profileOf}
+use Rattle.table.specs.Limits.{Profile, inRange, versionAllowed, profileOf}
 use Rattle.profile.specs.Fields.{FieldSet}
 use Rattle.profile.specs.Writer.{bytesAllowed, Allows, writerRows, refusal}
 

@@ -13,7 +13,7 @@ use Rattle.text.specs.Text.{every}
 use Rattle.text.proofs.Tests.{from-within, implied}
 use Rattle.text.proofs.Writing.{after-zero, after-done, over-same}
 use Rattle.grammar.specs.Pieces.{Pieces, pieces}
-use Rattle.profile.specs.Limits.{Profile, lowest, highest, profileOf, editionTwo, room}
+use Rattle.table.specs.Limits.{Profile, lowest, highest, profileOf, editionTwo, room}
 use Rattle.profile.specs.Fields.{FieldSet, chosen, writeBytes}
 use Rattle.profile.specs.Reader.{answer, fieldsOf}
 use Rattle.profile.specs.Writer.{OfBytes, Permitted, refusal, fieldPieces, formatted}

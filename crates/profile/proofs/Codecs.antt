@@ -26,16 +26,16 @@ use Rattle.grammar.specs.Limits.{longestValue, longestOutput, largestVersion}
 use Rattle.grammar.specs.Pieces.{Slot, isVersionPiece}
 use Rattle.grammar.specs.Rules.{isValue, versionReading, isVersion, isOutput}
 use Rattle.grammar.proofs.ValueBytes.{canonical-values}
-use Rattle.profile.specs.Limits.{inRange, versionAllowed, largest32}
-use Rattle.profile.specs.Fields.{isNumber, misplacedNumber, readNumber, writtenOut, writeNumber, misplacedBytes, isSized, isBytes, readBytes, writeBytes, readVersion, writeVersion}
+use Rattle.table.specs.Limits.{inRange, versionAllowed, largest32, misplacedNumber}
+use Rattle.table.specs.declared.limits.NumberRule.{NumberRule}
+use Rattle.table.specs.declared.limits.NumberRule.the-variants.{Needed, Omitted, Fixed}
+use Rattle.table.specs.declared.limits.BytesRule.{BytesRule}
+use Rattle.table.specs.declared.limits.BytesRule.the-variants.{Sized, Barred}
+use Rattle.table.specs.declared.version.Version.{Version}
+use Rattle.table.specs.declared.version.Version.the-variants.{Absent, Number}
+use Rattle.profile.specs.Fields.{isNumber, readNumber, writtenOut, writeNumber, misplacedBytes, isSized, isBytes, readBytes, writeBytes, readVersion, writeVersion}
 use Rattle.profile.specs.Writer.{bytesAllowed}
 use Rattle.profile.specs.Sound.{soundNumber, textWithin, soundVersions}
-use Rattle.profile.specs.declared.limits.NumberRule.{NumberRule}
-use Rattle.profile.specs.declared.limits.NumberRule.the-variants.{Needed, Omitted, Fixed}
-use Rattle.profile.specs.declared.limits.BytesRule.{BytesRule}
-use Rattle.profile.specs.declared.limits.BytesRule.the-variants.{Sized, Barred}
-use Rattle.profile.specs.declared.fields.Version.{Version}
-use Rattle.profile.specs.declared.fields.Version.the-variants.{Absent, Number}
 
 -- ---- texts of numbers, over any limits
 

@@ -10,12 +10,13 @@ use Rattle.text.specs.Rows.{firstOf}
 use Rattle.decimal.specs.Numerals.{limitedValue}
 use Rattle.grammar.specs.Parts.{partAt}
 use Rattle.grammar.specs.declared.places.Span.{Span}
+use Rattle.table.specs.Limits.{misplacedNumber, leftOut}
+use Rattle.table.specs.declared.limits.NumberRule.{NumberRule}
+use Rattle.table.specs.declared.limits.NumberRule.the-variants.{Needed, Fixed}
+use Rattle.table.specs.declared.limits.BytesRule.the-variants.{Barred}
 use Rattle.profile.specs.Reader.{numberRow}
-use Rattle.profile.specs.Fields.{numberReading, misplacedNumber, readNumber, leftOut, writtenOut, misplacedBytes}
+use Rattle.profile.specs.Fields.{numberReading, readNumber, writtenOut, misplacedBytes}
 use Rattle.profile.specs.ReaderSteps.{slotIn}
-use Rattle.profile.specs.declared.limits.NumberRule.{NumberRule}
-use Rattle.profile.specs.declared.limits.NumberRule.the-variants.{Needed, Fixed}
-use Rattle.profile.specs.declared.limits.BytesRule.the-variants.{Barred}
 use Rattle.profile.proofs.SlotLaws.{slot-some}
 
 module _ (s : List ℕ) (w : Span) where

@@ -10,7 +10,7 @@ use lib.Dec.{ltb}
 use Rattle.text.specs.Rows.{Row, row, firstOf}
 use Rattle.text.proofs.Rows.{rows-stop}
 use Rattle.grammar.specs.Pieces.{Slot}
-use Rattle.profile.specs.Limits.{Profile}
+use Rattle.table.specs.Limits.{Profile}
 use Rattle.profile.specs.ReaderSteps.{NumbersAre, Judged}
 use Rattle.profile.specs.declared.judge.Judgement.{Judgement}
 

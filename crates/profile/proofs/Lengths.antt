@@ -18,19 +18,19 @@ use Rattle.decimal.specs.Decimal.{digitsWithin, digits}
 use Rattle.decimal.proofs.DecimalLaws.{by-tens, length-small, length-step, length-pos}
 use Rattle.grammar.specs.Limits.{longestString}
 use Rattle.grammar.proofs.Reading.{whole-long}
-use Rattle.profile.specs.Limits.{Profile, inRange, versionAllowed, editionTwo, room}
+use Rattle.table.specs.Limits.{Profile, inRange, versionAllowed, editionTwo, room}
+use Rattle.table.specs.declared.limits.NumberRule.{NumberRule}
+use Rattle.table.specs.declared.limits.NumberRule.the-variants.{Needed, Omitted, Fixed}
+use Rattle.table.specs.declared.limits.BytesRule.{BytesRule}
+use Rattle.table.specs.declared.limits.BytesRule.the-variants.{Sized, Barred}
+use Rattle.table.specs.declared.version.Version.{Version}
+use Rattle.table.specs.declared.version.Version.the-variants.{Absent, Number}
 use Rattle.profile.specs.Fields.{FieldSet, writeNumber, writeBytes, writeVersion}
 use Rattle.profile.specs.Reader.{answer}
 use Rattle.profile.specs.Writer.{bytesAllowed, Allows, formatted}
 use Rattle.profile.specs.PieceTexts.{taggedLength}
 use Rattle.profile.specs.Entries.{reading, refusedReading, decoded}
-use Rattle.profile.specs.declared.limits.NumberRule.{NumberRule}
-use Rattle.profile.specs.declared.limits.NumberRule.the-variants.{Needed, Omitted, Fixed}
-use Rattle.profile.specs.declared.limits.BytesRule.{BytesRule}
-use Rattle.profile.specs.declared.limits.BytesRule.the-variants.{Sized, Barred}
 use Rattle.profile.specs.declared.fields.ByteString.{ByteString}
-use Rattle.profile.specs.declared.fields.Version.{Version}
-use Rattle.profile.specs.declared.fields.Version.the-variants.{Absent, Number}
 use Rattle.profile.proofs.Table.{at-id}
 use Rattle.profile.proofs.Allows.{here}
 use Rattle.profile.proofs.Texts.{formatted-length}

@@ -11,7 +11,6 @@ pub mod Lengths
 pub mod Strings
 pub mod SlotLaws
 pub mod FieldLaws
-pub mod ColumnLaws
 pub mod ValueLaws
 pub mod JudgeLaws
 pub mod ReadLaws

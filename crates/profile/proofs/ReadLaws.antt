@@ -27,13 +27,13 @@ use Rattle.grammar.specs.declared.places.Piece.the-variants.{Id, Params, Versio
 use Rattle.grammar.specs.declared.places.Span.{Span}
 use Rattle.grammar.specs.declared.places.Places.{Places}
 use Rattle.grammar.proofs.Reading.{accepted-rows, accepted-starts, slot-absent, slot-present, piece-part}
-use Rattle.profile.specs.Limits.{Profile, idOf, profileOf, editionTwo}
+use Rattle.table.specs.Limits.{Profile, idOf, profileOf, editionTwo}
+use Rattle.table.specs.declared.limits.BytesRule.{BytesRule}
+use Rattle.table.specs.declared.version.Version.{Version}
 use Rattle.profile.specs.Fields.{chosen, isSized, isBytes, readNumber, readBytes, readVersion}
 use Rattle.profile.specs.Reader.{names, slots, strangers, slotAt, rowsFor, profileRows, answer, fieldsOf}
 use Rattle.profile.specs.Entries.{refusedReading, kindOf, reading, decoded}
 use Rattle.profile.specs.ReaderSteps.{slotIn, slotsIn, ValuesAre, Judged, chosenText, WholeIs}
-use Rattle.profile.specs.declared.limits.BytesRule.{BytesRule}
-use Rattle.profile.specs.declared.fields.Version.{Version}
 use Rattle.profile.specs.declared.fields.Reading.{Reading}
 use Rattle.profile.specs.declared.fields.ByteString.{ByteString}
 use Rattle.profile.specs.declared.fields.ByteString.the-variants.{Keyid, Data, Salt, Output}

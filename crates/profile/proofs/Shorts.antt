@@ -8,7 +8,7 @@ use mathlib.Core.Path.{_≡_, refl, sym, ap, _∙_}
 use borrow.Author.Tests.{le-ltb}
 use Rattle.text.specs.Text.{all, isByte}
 use Rattle.text.specs.Place.{putAfter}
-use Rattle.profile.specs.Limits.{Profile, profileOf, editionTwo}
+use Rattle.table.specs.Limits.{Profile, profileOf, editionTwo}
 use Rattle.profile.specs.Writer.{Permitted, refusal, formatted, shortFields, shortRefusal}
 use Rattle.profile.specs.Claims.{ShortAgrees}
 use Rattle.profile.specs.Fields.{fieldSet}

@@ -7,7 +7,7 @@ use Rattle.decimal.specs.Numerals.{numeral, limitedReading}
 use Rattle.grammar.specs.Bytes.{isNameByte, isValueByte, isText}
 use Rattle.grammar.specs.Pieces.{pieces}
 use Rattle.grammar.specs.Rules.{isItem, isParams, versionReading, isVersion, isOutput, badWhole}
-use Rattle.profile.specs.Limits.{editionTwo}
+use Rattle.table.specs.Limits.{editionTwo}
 use Rattle.profile.specs.Reader.{answer, fieldsOf}
 use Rattle.profile.specs.Entries.{reading}
 use Rattle.profile.specs.Claims.{Examples}

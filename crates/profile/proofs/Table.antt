@@ -1,7 +1,7 @@
 -- The ids of an edition: the number of an id text and the entry at a number; and what the tests of specs/Sound.antt say of an entry.
 -- Assumes nothing.
 use Prim.Native.Nat.{ℕ, zero, suc, _*_, _≤_, _<_}
-use mathlib.Core.Bool.{Bool, true, false, cond, _&&_, true≢false, false≢true}
+use mathlib.Core.Bool.{Bool, true, false, cond, _&&_, false≢true}
 use mathlib.Core.List.{List, [], _∷_}
 use mathlib.Core.Path.{_≡_, refl, sym, subst}
 use native.Mathlib.Omega.{arith}
@@ -14,7 +14,7 @@ use Rattle.text.proofs.Lists.{same-eq}
 use Rattle.text.proofs.Table.{every-at}
 use Rattle.grammar.specs.Bytes.{isNameByte, isText}
 use Rattle.grammar.specs.Rules.{isName}
-use Rattle.profile.specs.Limits.{Profile, inRange, versionAllowed, next, idOf, nobody, profileOf, editionTwo}
+use Rattle.table.specs.Limits.{Profile, inRange, versionAllowed, next, idOf, nobody, profileOf, editionTwo}
 use Rattle.profile.specs.Sound.{soundNumber, soundBytes, soundOutput, soundVersions, soundAt, sound, usualAt, usualSound}
 
 -- ---- a test on each entry

@@ -10,7 +10,7 @@ use Rattle.text.specs.Text.{text, listOf}
 use Rattle.text.proofs.Joining.{marked, join-marked, append-five, length-five}
 use Rattle.grammar.specs.Pieces.{Slot}
 use Rattle.grammar.specs.Items.{Item, itemText, paramsText}
-use Rattle.profile.specs.Limits.{Profile, profileOf}
+use Rattle.table.specs.Limits.{Profile, profileOf}
 use Rattle.profile.specs.Fields.{FieldSet, writeNumber, writeBytes, writeVersion}
 use Rattle.profile.specs.Reader.{names}
 use Rattle.profile.specs.Writer.{item, itemList, fieldSlots, fieldPieces, formatted}

@@ -15,12 +15,12 @@ use Rattle.text.proofs.Writing.{put-clear}
 use Rattle.text.proofs.Lists.{length-filled}
 use Rattle.text.proofs.Writers.{Asked}
 use Rattle.b64.specs.B64.{encode}
-use Rattle.profile.specs.Limits.{Profile, isSize, editionTwo, room}
+use Rattle.table.specs.Limits.{Profile, isSize, editionTwo, room}
+use Rattle.table.specs.declared.limits.BytesRule.{BytesRule}
 use Rattle.profile.specs.Fields.{FieldSet, writeBytes}
 use Rattle.profile.specs.Writer.{bytesAllowed, columnRows, refusal, formatted}
 use Rattle.profile.specs.Entries.{writing}
 use Rattle.profile.specs.PieceTexts.{dollared, piecesText, piecesLength}
-use Rattle.profile.specs.declared.limits.BytesRule.{BytesRule}
 use Rattle.profile.proofs.Allows.{here, allowed}
 use Rattle.profile.proofs.Texts.{formatted-is, formatted-length}
 use Rattle.profile.proofs.Lengths.{most-room}

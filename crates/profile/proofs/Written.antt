@@ -28,17 +28,17 @@ use Rattle.grammar.proofs.PieceLaws.{pieces-string}
 use Rattle.grammar.proofs.Reading.{whole-first}
 use Rattle.grammar.proofs.Longest.{at-most}
 use Rattle.grammar.proofs.ValueBytes.{canonical-values}
-use Rattle.profile.specs.Limits.{Profile, versionAllowed, profileOf}
+use Rattle.table.specs.Limits.{Profile, versionAllowed, profileOf}
+use Rattle.table.specs.declared.limits.BytesRule.{BytesRule}
+use Rattle.table.specs.declared.version.Version.{Version}
+use Rattle.table.specs.declared.version.Version.the-variants.{Absent, Number}
 use Rattle.profile.specs.Fields.{FieldSet, writeNumber, writeBytes, writeVersion}
 use Rattle.profile.specs.Reader.{names, slots, strangers, rowsFor, profileRows, answer, fieldsFor, carried, fieldsOf}
 use Rattle.profile.specs.Writer.{Permitted, itemList, fieldSlots, fieldPieces, formatted}
 use Rattle.profile.specs.Sound.{sound}
-use Rattle.profile.specs.declared.limits.BytesRule.{BytesRule}
-use Rattle.profile.specs.declared.fields.Version.{Version}
-use Rattle.profile.specs.declared.fields.Version.the-variants.{Absent, Number}
 use Rattle.profile.proofs.Codecs.{digits-values, NumberWritten, number-forth, BytesWritten, bytes-forth, written-value, written-output, VersionWritten, version-forth}
 use Rattle.profile.proofs.Slots.{slots-list}
-use Rattle.profile.proofs.Table.{Entry, entry-at, known-id}
+use Rattle.profile.proofs.Table.{Entry, entry-at}
 
 -- ---- the items keep the grammar's rule
 

@@ -10,7 +10,7 @@ use mathlib.Core.Logic.{_↔_, _≢_}
 use lib.ListN.{length}
 use Rattle.text.specs.Text.{text, all, empty, isByte}
 use Rattle.text.specs.Place.{outcome, over}
-use Rattle.profile.specs.Limits.{Profile, editionTwo, room}
+use Rattle.table.specs.Limits.{Profile, editionTwo, room}
 use Rattle.profile.specs.Fields.{FieldSet, chosen, writeBytes}
 use Rattle.profile.specs.Reader.{answer, fieldsOf}
 use Rattle.profile.specs.Writer.{OfBytes, Permitted, formatted, shortFields, shortRefusal}

@@ -7,12 +7,12 @@ use mathlib.Core.Option.{none, some}
 use lib.Dec.{eqb}
 use Rattle.text.specs.Place.{Outcome, putAfter}
 use Rattle.grammar.specs.Pieces.{Slot, pieces}
-use Rattle.profile.specs.Limits.{Profile, profileOf}
+use Rattle.table.specs.Limits.{Profile, profileOf}
+use Rattle.table.specs.declared.version.Version.{Version}
+use Rattle.table.specs.declared.version.Version.the-variants.{Absent, Number}
 use Rattle.profile.specs.Fields.{FieldSet, chosen}
 use Rattle.profile.specs.Reader.{answer, fieldsOf}
 use Rattle.profile.specs.Writer.{refusal, formatted, shortFields, shortRefusal}
-use Rattle.profile.specs.declared.fields.Version.{Version}
-use Rattle.profile.specs.declared.fields.Version.the-variants.{Absent, Number}
 use Rattle.profile.specs.declared.fields.Fields.{Fields}
 use Rattle.profile.specs.declared.fields.ByteString.{ByteString}
 use Rattle.profile.specs.declared.fields.Reading.{Reading}

@@ -13,13 +13,12 @@ use Rattle.decimal.specs.Numerals.{limitedReading, limitedNumber, limitedValue}
 use Rattle.decimal.specs.declared.reader.Limited.{Limited}
 use Rattle.grammar.specs.Pieces.{Slot}
 use Rattle.grammar.specs.Rules.{versionReading}
-use Rattle.profile.specs.Limits.{lowest, highest, isSize}
-use Rattle.profile.specs.declared.limits.NumberRule.{NumberRule}
-use Rattle.profile.specs.declared.limits.NumberRule.the-variants.{Needed, Omitted, Fixed}
-use Rattle.profile.specs.declared.limits.BytesRule.{BytesRule}
-use Rattle.profile.specs.declared.limits.BytesRule.the-variants.{Sized, Barred}
-use Rattle.profile.specs.declared.fields.Version.{Version}
-use Rattle.profile.specs.declared.fields.Version.the-variants.{Absent, Number}
+use Rattle.table.specs.Limits.{lowest, highest, given, leftOut, isSize}
+use Rattle.table.specs.declared.limits.NumberRule.{NumberRule}
+use Rattle.table.specs.declared.limits.BytesRule.{BytesRule}
+use Rattle.table.specs.declared.limits.BytesRule.the-variants.{Sized, Barred}
+use Rattle.table.specs.declared.version.Version.{Version}
+use Rattle.table.specs.declared.version.Version.the-variants.{Absent, Number}
 use Rattle.profile.specs.declared.fields.Fields.{Fields}
 use Rattle.profile.specs.declared.fields.ByteString.{ByteString}
 use Rattle.profile.specs.declared.fields.ByteString.the-variants.{Keyid, Data, Salt, Output}
@@ -50,29 +49,9 @@ numberReading r t = limitedReading (lowest r) (highest r) t
 abbrev pub isNumber : NumberRule → List ℕ → Bool
 isNumber r t = eqb (limitedNumber (numberReading r t)) 0
 
--- missing where it is needed, or there where it is no parameter
-abbrev pub misplacedNumber : NumberRule → Slot → Bool
-misplacedNumber (Needed low high) none = true
-misplacedNumber (Needed low high) (some t) = false
-misplacedNumber (Omitted low high given) s = false
-misplacedNumber (Fixed given) none = false
-misplacedNumber (Fixed given) (some t) = true
-
--- what stands for one that is left out
-abbrev pub given : NumberRule → ℕ
-given (Needed low high) = 0
-given (Omitted low high n) = n
-given (Fixed n) = n
-
 abbrev pub readNumber : NumberRule → Slot → ℕ
 readNumber r none = given r
 readNumber r (some t) = limitedValue (numberReading r t)
-
--- left out of the string: what an omitted one means, or no parameter
-abbrev pub leftOut : NumberRule → ℕ → Bool
-leftOut (Needed low high) n = false
-leftOut (Omitted low high given) n = eqb n given
-leftOut (Fixed given) n = true
 
 -- written out, though it is to be left out
 abbrev pub writtenOut : NumberRule → Slot → Bool

@@ -1,5 +1,3 @@
-pub mod Limits
-pub mod Columns
 pub mod Fields
 pub mod Reader
 pub mod Writer

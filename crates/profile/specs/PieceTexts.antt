@@ -8,7 +8,7 @@ use lib.ListN.{length}
 use Rattle.text.specs.Text.{text}
 use Rattle.grammar.specs.Bytes.{dollar}
 use Rattle.grammar.specs.Pieces.{Slot}
-use Rattle.profile.specs.Limits.{Profile}
+use Rattle.table.specs.Limits.{Profile}
 use Rattle.profile.specs.Fields.{FieldSet, writeNumber, writeBytes, writeVersion}
 use Rattle.profile.specs.declared.fields.Fields.{Fields}
 

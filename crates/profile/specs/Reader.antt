@@ -11,10 +11,10 @@ use Rattle.text.specs.Rows.{Row, row, firstOf}
 use Rattle.grammar.specs.Pieces.{Slot, Pieces, pieces}
 use Rattle.grammar.specs.Items.{Item, itemsOf}
 use Rattle.grammar.specs.Rules.{grammarRows}
-use Rattle.profile.specs.Limits.{Profile, versionAllowed, idOf, profileOf}
-use Rattle.profile.specs.Fields.{FieldSet, isNumber, misplacedNumber, readNumber, writtenOut, misplacedBytes, isSized, isBytes, readBytes, readVersion}
-use Rattle.profile.specs.declared.limits.NumberRule.{NumberRule}
-use Rattle.profile.specs.declared.fields.Version.{Version}
+use Rattle.table.specs.Limits.{Profile, versionAllowed, idOf, profileOf, misplacedNumber}
+use Rattle.table.specs.declared.limits.NumberRule.{NumberRule}
+use Rattle.table.specs.declared.version.Version.{Version}
+use Rattle.profile.specs.Fields.{FieldSet, isNumber, readNumber, writtenOut, misplacedBytes, isSized, isBytes, readBytes, readVersion}
 
 -- ---- parameters by name, in order
 

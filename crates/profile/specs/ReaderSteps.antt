@@ -13,7 +13,7 @@ use Rattle.grammar.specs.Pieces.{Slot}
 use Rattle.grammar.specs.Items.{Item, itemsFrom}
 use Rattle.grammar.specs.Parts.{partAt, textOf}
 use Rattle.grammar.specs.declared.places.Span.{Span}
-use Rattle.profile.specs.Limits.{Profile, editionTwo}
+use Rattle.table.specs.Limits.{Profile, editionTwo}
 use Rattle.profile.specs.Fields.{chosen, readNumber}
 use Rattle.profile.specs.Reader.{names, named, itemValue, slots, strangers, slotAt, fieldsOf}
 use Rattle.profile.specs.Entries.{reading}

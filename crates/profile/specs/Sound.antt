@@ -8,11 +8,11 @@ use Rattle.text.specs.Text.{within, all, every}
 use Rattle.b64.specs.Lengths.{charsOf}
 use Rattle.grammar.specs.Limits.{longestValue, longestOutput, largestVersion}
 use Rattle.grammar.specs.Rules.{isName}
-use Rattle.profile.specs.Limits.{Profile, inRange, versionAllowed, idOf, largest32}
-use Rattle.profile.specs.declared.limits.NumberRule.{NumberRule}
-use Rattle.profile.specs.declared.limits.NumberRule.the-variants.{Needed, Omitted, Fixed}
-use Rattle.profile.specs.declared.limits.BytesRule.{BytesRule}
-use Rattle.profile.specs.declared.limits.BytesRule.the-variants.{Sized, Barred}
+use Rattle.table.specs.Limits.{Profile, inRange, versionAllowed, idOf, largest32}
+use Rattle.table.specs.declared.limits.NumberRule.{NumberRule}
+use Rattle.table.specs.declared.limits.NumberRule.the-variants.{Needed, Omitted, Fixed}
+use Rattle.table.specs.declared.limits.BytesRule.{BytesRule}
+use Rattle.table.specs.declared.limits.BytesRule.the-variants.{Sized, Barred}
 
 -- numbers of 32 bits; what is left out is permitted
 abbrev pub soundNumber : NumberRule → Bool

@@ -11,10 +11,10 @@ use Rattle.text.specs.Text.{all, empty, isByte}
 use Rattle.text.specs.Rows.{Row, row, firstOf}
 use Rattle.grammar.specs.Pieces.{Slot, Pieces, string}
 use Rattle.grammar.specs.Items.{Item, paramsText}
-use Rattle.profile.specs.Limits.{Profile, inRange, isSize, versionAllowed, profileOf}
+use Rattle.table.specs.Limits.{Profile, inRange, isSize, versionAllowed, profileOf}
+use Rattle.table.specs.declared.limits.BytesRule.{BytesRule}
 use Rattle.profile.specs.Fields.{FieldSet, fieldSet, writeNumber, writeBytes, writeVersion}
 use Rattle.profile.specs.Reader.{names}
-use Rattle.profile.specs.declared.limits.BytesRule.{BytesRule}
 use Rattle.profile.specs.declared.fields.Fields.{Fields}
 
 -- empty, or of a permitted size

@@ -1,10 +1,10 @@
 // One byte string: its rule over the span of its text, and over its bytes. Sizes are in bytes, lengths of texts in characters.
-use crate::bounds::is_size;
-use crate::limits::BytesRule;
 use b64::canonical::is_canonical;
 use b64::lengths::decoded_len;
 use grammar::places::Span;
 use grammar::places::part;
+use table::bounds::is_size;
+use table::limits::BytesRule;
 use text::units::Bytes;
 use text::units::Chars;
 ghost use Prim.Native.Nat.{ℕ};

@@ -1,10 +1,5 @@
 // The fields of a string. The four byte strings travel beside the number fields.
-
-// A version field: absent, or the number written. Absent is a case of its own.
-pub enum Version {
-    Absent,
-    Number(u32),
-}
+use table::version::Version;
 
 // id is 1 to 5 in the order of the profiles' list; p is a u32, so that what is too large is refused and not wrapped.
 pub struct Fields {

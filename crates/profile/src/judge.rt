@@ -1,10 +1,7 @@
 // Rows 8 to 15, over the id's column, the version, the values of the names, the salt and the output.
-use crate::bounds::version_allowed;
 use crate::bytes_field::bad_bytes;
 use crate::bytes_field::bad_size;
 use crate::bytes_field::misplaced_bytes;
-use crate::fields::Version;
-use crate::limits::Column;
 use crate::number_field::misplaced_number;
 use crate::number_field::read_number;
 use crate::number_field::written_out;
@@ -18,11 +15,14 @@ use crate::numbers::WRONG_OUTPUT;
 use crate::numbers::WRONG_SALT;
 use crate::values::Values;
 use grammar::places::Span;
+use table::bounds::version_allowed;
+use table::limits::Column;
+use table::version::Version;
 ghost use Prim.Native.Nat.{ℕ};
 ghost use mathlib.Core.Path.{_≡_};
 ghost use mathlib.Core.List.{List};
 ghost use Rattle.text.specs.Rows.{firstOf};
-ghost use Rattle.profile.specs.Columns.{profileIn};
+ghost use Rattle.table.specs.Columns.{profileIn};
 ghost use Rattle.profile.specs.Reader.{misplaced, numberRows, spellingRows, rowsFor};
 ghost use Rattle.profile.specs.ReaderSteps.{slotIn, slotsIn, NumbersAre, Judged};
 

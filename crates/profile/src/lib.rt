@@ -1,17 +1,10 @@
 // The five profiles over the grammar's promises: argon2d, argon2i, argon2id, pbkdf2s2, pbkdf2s3.
-pub mod bounds;
 mod bytes_field;
-pub mod columns;
 pub mod fields;
-pub mod ids;
 mod judge;
-pub mod limits;
 mod name_field;
-mod names;
 mod number_field;
 pub mod numbers;
-pub mod omitted;
-mod ranges;
 pub mod reader;
 mod tagged;
 mod values;

@@ -1,14 +1,14 @@
 // The name of an id: its length, and putting it after a `$`.
-use crate::names::NAMES;
-use crate::names::name_at;
 use crate::tagged::put_text;
+use table::names::NAMES;
+use table::names::name_at;
 ghost use Prim.Native.Nat.{suc, _≤_};
 ghost use mathlib.Core.Path.{_≡_};
 ghost use mathlib.Core.List.{_∷_};
 ghost use lib.ListN.{length};
 ghost use Rattle.text.specs.Place.{Wrote};
 ghost use Rattle.grammar.specs.Bytes.{dollar};
-ghost use Rattle.profile.specs.Columns.{nameAt};
+ghost use Rattle.table.specs.Columns.{nameAt};
 
 // The length of the name at an index of the table.
 pub fn name_len(index: usize) -> usize

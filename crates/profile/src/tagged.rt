@@ -11,7 +11,7 @@ ghost use mathlib.Core.List.{_++_};
 ghost use lib.ListN.{length};
 ghost use Rattle.text.specs.Place.{Wrote};
 ghost use Rattle.decimal.specs.Decimal.{digits};
-ghost use Rattle.profile.specs.Limits.{room};
+ghost use Rattle.table.specs.Limits.{room};
 ghost use Rattle.profile.specs.Fields.{writeBytes};
 ghost use Rattle.profile.specs.PieceTexts.{tagged, taggedLength};
 

@@ -1,7 +1,7 @@
 // The version: its piece's text, and its length.
-use crate::fields::Version;
 use crate::tagged::decimal_len;
 use crate::tagged::put_decimal;
+use table::version::Version;
 ghost use Prim.Native.Nat.{_≤_};
 ghost use mathlib.Core.Path.{_≡_};
 ghost use lib.ListN.{length};

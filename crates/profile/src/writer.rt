@@ -1,9 +1,9 @@
 // The writer: the one string of permitted fields, into a lent buffer from a place on; and the short writer, which takes the usual costs.
-use crate::columns::column_of;
 use crate::fields::Fields;
 use crate::writer_rows::refusal_of;
 use crate::writer_text::put_string;
 use crate::writer_text::string_len;
+use table::columns::column_of;
 use text::numbers::NO_ROOM;
 use text::place::Written;
 use text::place::has_room;
@@ -11,7 +11,7 @@ use text::units::Chars;
 ghost use mathlib.Core.Path.{_≡_};
 ghost use mathlib.Core.List.{[]};
 ghost use Rattle.text.specs.Place.{outcome};
-ghost use Rattle.profile.specs.Limits.{editionTwo};
+ghost use Rattle.table.specs.Limits.{editionTwo};
 ghost use Rattle.profile.specs.Fields.{fieldSet};
 ghost use Rattle.profile.specs.Writer.{shortFields};
 ghost use Rattle.profile.specs.Entries.{writing, shortWriting};

@@ -1,9 +1,6 @@
 // The writer's rows 8 to 16 over the fields.
-use crate::bounds::in_range;
-use crate::bounds::version_allowed;
 use crate::bytes_field::bytes_allowed;
 use crate::fields::Fields;
-use crate::limits::Column;
 use crate::numbers::OUTPUT_WITHOUT_SALT;
 use crate::numbers::UNKNOWN_ID;
 use crate::numbers::VERSION_NOT_PERMITTED;
@@ -11,9 +8,12 @@ use crate::numbers::WRONG_BYTES;
 use crate::numbers::WRONG_NUMBER;
 use crate::numbers::WRONG_OUTPUT;
 use crate::numbers::WRONG_SALT;
+use table::bounds::in_range;
+use table::bounds::version_allowed;
+use table::limits::Column;
 ghost use mathlib.Core.Path.{_≡_};
 ghost use Rattle.text.specs.Rows.{firstOf};
-ghost use Rattle.profile.specs.Columns.{profileIn};
+ghost use Rattle.table.specs.Columns.{profileIn};
 ghost use Rattle.profile.specs.Fields.{fieldSet};
 ghost use Rattle.profile.specs.Writer.{rangeRows, bytesRows, columnRows};
 

@@ -1,6 +1,5 @@
 // The string of fields: its length, and putting it at the start of a buffer, piece after piece.
 use crate::fields::Fields;
-use crate::limits::Column;
 use crate::name_field::name_len;
 use crate::name_field::put_name;
 use crate::number_field::number_len;
@@ -9,12 +8,13 @@ use crate::tagged::bytes_len;
 use crate::tagged::put_bytes;
 use crate::version_field::put_version;
 use crate::version_field::version_len;
+use table::limits::Column;
 ghost use Prim.Native.Nat.{_≤_};
 ghost use mathlib.Core.Path.{_≡_};
 ghost use lib.ListN.{length};
 ghost use Rattle.text.specs.Place.{Wrote};
-ghost use Rattle.profile.specs.Limits.{room};
-ghost use Rattle.profile.specs.Columns.{profileIn};
+ghost use Rattle.table.specs.Limits.{room};
+ghost use Rattle.table.specs.Columns.{profileIn};
 ghost use Rattle.profile.specs.Fields.{fieldSet};
 ghost use Rattle.profile.specs.PieceTexts.{costsText, costsLength, itemsText, dollared, headText, piecesText, piecesLength};
 

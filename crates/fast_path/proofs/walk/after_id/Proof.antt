@@ -1,7 +1,7 @@
 -- `fast_path::walk::after_id` meets its contract. Assumes nothing.
 use borrow.Author.Needs.{needs}
 use lib.ListN.{drop}
-use Rattle.profile.specs.Columns.{profileIn}
+use Rattle.table.specs.Columns.{profileIn}
 use Rattle.fast_path.proofs.Chains.{after-unknown, after-none, after-some}
 use Rattle.fast_path.proofs.walk.after_id.Statement.{statement}
 use Rattle.fast_path.proofs.walk.after_id.Tie as tie

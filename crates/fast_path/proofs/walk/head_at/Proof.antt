@@ -1,6 +1,6 @@
 -- `fast_path::walk::head_at` meets its contract. Assumes nothing.
 use borrow.Author.Needs.{needs}
-use Rattle.profile.specs.Columns.{profileIn}
+use Rattle.table.specs.Columns.{profileIn}
 use Rattle.fast_path.proofs.Chains.{head-none, head-some}
 use Rattle.fast_path.proofs.walk.head_at.Statement.{statement}
 use Rattle.fast_path.proofs.walk.head_at.Tie as tie

@@ -10,7 +10,7 @@ use Rattle.text.proofs.Starts.{starts-text}
 use Rattle.text.proofs.Scanning.{find-from-le}
 use Rattle.grammar.specs.Bytes.{dollar}
 use Rattle.grammar.proofs.RuleLaws.{version-most}
-use Rattle.profile.specs.Columns.{listed}
+use Rattle.table.specs.Columns.{listed}
 use Rattle.fast_path.proofs.Chains.{version-malformed, version-outside, version-there, version-absent}
 use Rattle.fast_path.proofs.walk.version_item.Statement.{statement}
 use Rattle.fast_path.proofs.walk.version_item.Tie as tie

@@ -1,12 +1,12 @@
 -- `fast_path::walk::walk_string` meets its contract. Assumes nothing.
-use Prim.Native.Nat.{ℕ, _≤_}
-use mathlib.Core.Path.{_≡_, sym, _∙_, ap, subst}
+use Prim.Native.Nat.{_≤_}
+use mathlib.Core.Path.{_≡_, ap}
 use native.Mathlib.Omega.{arith}
 use borrow.Author.Needs.{needs}
 use lib.ListN.{length}
 use Rattle.text.proofs.Scanning.{find-from-le}
-use Rattle.profile.specs.Limits.{Profile, profileOf, editionTwo}
-use Rattle.profile.specs.Columns.{profileIn}
+use Rattle.table.specs.Limits.{profileOf, editionTwo}
+use Rattle.table.specs.Columns.{profileIn}
 use Rattle.fast_path.specs.WalkSteps.{roomy}
 use Rattle.fast_path.proofs.Chains.{walked-empty, walked-other, walked-id}
 use Rattle.fast_path.proofs.StringLaws.{roomy-two}

@@ -1,7 +1,7 @@
 -- `fast_path::walk::with_strings` meets its contract. Assumes nothing.
 use native.Mathlib.Omega.{arith}
 use borrow.Author.Needs.{needs}
-use Rattle.profile.specs.Columns.{profileIn}
+use Rattle.table.specs.Columns.{profileIn}
 use Rattle.fast_path.proofs.StringLaws.{stored-two-size, no-keys, no-hashes, ordered, text-left, all-strings}
 use Rattle.fast_path.proofs.walk.with_strings.Statement.{statement}
 use Rattle.fast_path.proofs.walk.with_strings.Tie as tie

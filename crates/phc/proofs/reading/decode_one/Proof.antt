@@ -2,7 +2,7 @@
 use native.Mathlib.Omega.{arith}
 use borrow.Author.Needs.{needs}
 use denote.Ref.{now}
-use Rattle.profile.specs.Limits.{editionTwo}
+use Rattle.table.specs.Limits.{editionTwo}
 use Rattle.profile.specs.Entries.{decoded}
 use Rattle.phc.proofs.CodeLaws.{left-is, refused-is, done-is}
 use Rattle.phc.proofs.SizeLaws.{decoded-small}

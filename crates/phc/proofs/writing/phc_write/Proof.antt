@@ -4,10 +4,10 @@ use mathlib.Core.Path.{_≡_, ap, _∙_}
 use borrow.Author.Needs.{needs}
 use denote.Ref.{now}
 use Rattle.text.specs.Place.{outcome}
-use Rattle.profile.specs.Limits.{editionTwo}
+use Rattle.table.specs.Limits.{editionTwo}
+use Rattle.table.specs.declared.version.Version.{Version}
 use Rattle.profile.specs.Fields.{FieldSet, fieldSet}
 use Rattle.profile.specs.Entries.{writing}
-use Rattle.profile.specs.declared.fields.Version.{Version}
 use Rattle.phc.specs.Writing.{handed}
 use Rattle.phc.proofs.CodeLaws.{left-is, refused-is, done-is}
 use Rattle.phc.proofs.SizeLaws.{written-small}

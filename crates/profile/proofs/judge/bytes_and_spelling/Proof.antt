@@ -8,8 +8,8 @@ use denote.Ref.{now}
 use Rattle.text.specs.Text.{broken}
 use Rattle.text.specs.Rows.{row, firstOf}
 use Rattle.grammar.specs.Pieces.{Slot}
-use Rattle.profile.specs.Limits.{Profile}
-use Rattle.profile.specs.Columns.{profileIn}
+use Rattle.table.specs.Limits.{Profile}
+use Rattle.table.specs.Columns.{profileIn}
 use Rattle.profile.specs.Fields.{isBytes, writtenOut}
 use Rattle.profile.specs.Reader.{slotAt, spellingRows}
 use Rattle.profile.specs.ReaderSteps.{slotsIn, NumbersAre}

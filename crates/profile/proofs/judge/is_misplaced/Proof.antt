@@ -4,8 +4,9 @@ use borrow.Author.Needs.{needs}
 use mathlib.Core.Bool.{Bool, _||_}
 use mathlib.Core.List.{List}
 use mathlib.Core.Path.{_≡_, sym, _∙_}
-use Rattle.profile.specs.Columns.{profileIn}
-use Rattle.profile.specs.Fields.{misplacedNumber, misplacedBytes}
+use Rattle.table.specs.Columns.{profileIn}
+use Rattle.table.specs.Limits.{misplacedNumber}
+use Rattle.profile.specs.Fields.{misplacedBytes}
 use Rattle.profile.specs.Reader.{misplaced}
 use Rattle.profile.specs.ReaderSteps.{slotIn, slotsIn}
 use Rattle.profile.proofs.judge.is_misplaced.Statement.{statement}

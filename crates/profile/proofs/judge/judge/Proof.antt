@@ -6,13 +6,11 @@ use mathlib.Core.Path.{_≡_, refl, sym, _∙_}
 use native.Mathlib.Omega.{arith}
 use lib.ListN.{drop}
 use denote.Ref.{now}
-use Rattle.text.specs.Text.{broken}
 use Rattle.text.specs.Rows.{Row, firstOf}
 use Rattle.text.proofs.Rows.{rows-stop, rows-next}
 use Rattle.grammar.specs.Pieces.{Slot}
-use Rattle.profile.specs.Limits.{Profile}
-use Rattle.profile.specs.Columns.{profileIn}
-use Rattle.profile.specs.Fields.{isSized, isBytes}
+use Rattle.table.specs.Limits.{Profile}
+use Rattle.table.specs.Columns.{profileIn}
 use Rattle.profile.specs.Reader.{misplaced, numberRows, spellingRows, rowsFor}
 use Rattle.profile.specs.ReaderSteps.{slotIn, slotsIn, NumbersAre, Judged}
 use Rattle.profile.specs.declared.judge.Judgement.{Judgement}

@@ -10,8 +10,8 @@ use lib.Dec.{ltb}
 use Rattle.text.specs.Rows.{Row, row, firstOf}
 use Rattle.text.proofs.Rows.{rows-stop, rows-next}
 use Rattle.grammar.specs.Pieces.{Slot}
-use Rattle.profile.specs.Limits.{Profile}
-use Rattle.profile.specs.Columns.{profileIn}
+use Rattle.table.specs.Limits.{Profile}
+use Rattle.table.specs.Columns.{profileIn}
 use Rattle.profile.specs.Fields.{readNumber}
 use Rattle.profile.specs.Reader.{slotAt, numberRow, numberRows}
 use Rattle.profile.specs.ReaderSteps.{slotsIn, Judged}

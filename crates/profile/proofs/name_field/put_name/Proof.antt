@@ -9,7 +9,7 @@ use lib.ListN.{length, take, drop}
 use Rattle.text.specs.Text.{text}
 use Rattle.text.specs.Place.{Wrote}
 use Rattle.text.proofs.Wrote.{AllFit, First, Next, first-room, first-wrote, next-room, next-wrote, chain-sum}
-use Rattle.profile.specs.Columns.{nameAt}
+use Rattle.table.specs.Columns.{nameAt}
 use Rattle.profile.proofs.name_field.put_name.Statement.{statement}
 use Rattle.profile.proofs.name_field.put_name.Tie as tie
 

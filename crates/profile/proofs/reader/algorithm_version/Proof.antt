@@ -1,7 +1,7 @@
 -- `profile::reader::algorithm_version` meets its contract. Assumes nothing.
 use mathlib.Core.Path.{_≡_, _∙_, ap}
 use borrow.Author.Needs.{needs}
-use Rattle.profile.specs.Limits.{Profile, profileOf, editionTwo}
+use Rattle.table.specs.Limits.{Profile, profileOf, editionTwo}
 use Rattle.profile.specs.Entries.{meantVersion, meaningOf, meaning}
 use Rattle.profile.proofs.reader.algorithm_version.Statement.{statement}
 use Rattle.profile.proofs.reader.algorithm_version.Tie as tie

@@ -8,12 +8,12 @@ use denote.Ref.{now}
 use lib.Dec.{eqb}
 use Rattle.grammar.specs.Items.{items}
 use Rattle.grammar.specs.Parts.{partAt}
-use Rattle.profile.specs.Limits.{Profile, idOf, profileOf, editionTwo}
-use Rattle.profile.specs.Columns.{profileIn}
+use Rattle.table.specs.Limits.{Profile, idOf, profileOf, editionTwo}
+use Rattle.table.specs.Columns.{profileIn}
+use Rattle.table.specs.declared.version.Version.{Version}
 use Rattle.profile.specs.Reader.{rowsFor}
 use Rattle.profile.specs.ReaderSteps.{slotIn, slotsIn, ValuesAre, Judged}
 use Rattle.profile.specs.declared.fields.Reading.{Reading}
-use Rattle.profile.specs.declared.fields.Version.{Version}
 use Rattle.profile.specs.declared.values.Values.{Values}
 use Rattle.profile.proofs.ReadLaws.{part-items, Found, found, judged-number, accepted-reading, accepted-texts, reading-refused, whole-refused}
 use Rattle.profile.proofs.reader.read_pieces.Statement.{statement}

@@ -5,7 +5,7 @@ use denote.Ref.{now}
 use Rattle.grammar.specs.Rules.{grammarNumber}
 use Rattle.grammar.specs.declared.pieces.Layout.{Layout}
 use Rattle.grammar.proofs.Reading.{layout-number, layout-accepted}
-use Rattle.profile.specs.Limits.{editionTwo}
+use Rattle.table.specs.Limits.{editionTwo}
 use Rattle.profile.specs.declared.fields.Reading.{Reading}
 use Rattle.profile.proofs.ReadLaws.{answer-refused, reading-refused, whole-refused}
 use Rattle.profile.proofs.reader.read_whole.Statement.{statement}

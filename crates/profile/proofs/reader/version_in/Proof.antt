@@ -6,9 +6,9 @@ use denote.Ref.{now}
 use Rattle.decimal.specs.Numerals.{limitedValue}
 use Rattle.decimal.specs.declared.reader.Limited.{Limited}
 use Rattle.grammar.proofs.RuleLaws.{version-most}
+use Rattle.table.specs.declared.version.Version.the-variants.{Number}
 use Rattle.profile.specs.Fields.{readVersion}
 use Rattle.profile.specs.ReaderSteps.{slotIn}
-use Rattle.profile.specs.declared.fields.Version.the-variants.{Number}
 use Rattle.profile.proofs.SlotLaws.{slot-none, slot-some}
 use Rattle.profile.proofs.reader.version_in.Statement.{statement}
 use Rattle.profile.proofs.reader.version_in.Tie as tie

@@ -8,7 +8,7 @@ use lib.ListN.{length}
 use Rattle.text.proofs.Lists.{length-nil}
 use Rattle.b64.specs.B64.{encode}
 use Rattle.b64.proofs.B64Laws.{length-encode}
-use Rattle.profile.specs.Limits.{room}
+use Rattle.table.specs.Limits.{room}
 use Rattle.profile.specs.Fields.{writeBytes}
 use Rattle.profile.specs.PieceTexts.{taggedLength}
 use Rattle.profile.proofs.WriterLaws.{some-bytes}

@@ -1,7 +1,7 @@
 -- `profile::writer::usual_fields` meets its contract. Assumes nothing.
 use mathlib.Core.Path.{ap}
 use borrow.Author.Needs.{needs}
-use Rattle.profile.specs.Limits.{Profile}
+use Rattle.table.specs.Limits.{Profile}
 use Rattle.profile.specs.Writer.{shortFields}
 use Rattle.profile.specs.declared.fields.Fields.{Fields}
 use Rattle.profile.proofs.writer.usual_fields.Statement.{statement}

@@ -11,8 +11,8 @@ use Rattle.text.specs.Place.{over, put}
 use Rattle.text.specs.Rows.{firstOf}
 use Rattle.text.proofs.Writing.{put-refused}
 use Rattle.text.proofs.Writers.{Asked, writer-fits, writer-full, writer-room, writer-over}
-use Rattle.profile.specs.Limits.{Profile, editionTwo}
-use Rattle.profile.specs.Columns.{profileIn}
+use Rattle.table.specs.Limits.{Profile, editionTwo}
+use Rattle.table.specs.Columns.{profileIn}
 use Rattle.profile.specs.Fields.{FieldSet, fieldSet}
 use Rattle.profile.specs.Writer.{columnRows, refusal, formatted}
 use Rattle.profile.specs.Entries.{writing}

@@ -6,7 +6,7 @@ use denote.Ref.{now}
 use lib.ListN.{drop}
 use Rattle.text.specs.Rows.{firstOf}
 use Rattle.text.proofs.Lists.{length-filled}
-use Rattle.profile.specs.Columns.{profileIn}
+use Rattle.table.specs.Columns.{profileIn}
 use Rattle.profile.specs.Writer.{bytesRows}
 use Rattle.profile.proofs.WriterLaws.{unsalted, no-output}
 use Rattle.profile.proofs.writer_rows.bad_byte_strings.Statement.{statement}

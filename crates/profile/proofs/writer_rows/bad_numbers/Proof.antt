@@ -6,7 +6,7 @@ use borrow.Author.Needs.{needs}
 use borrow.Author.Tests.{lt-ltb, le-ltb}
 use lib.ListN.{drop}
 use Rattle.text.specs.Rows.{firstOf}
-use Rattle.profile.specs.Columns.{profileIn}
+use Rattle.table.specs.Columns.{profileIn}
 use Rattle.profile.specs.Writer.{rangeRows}
 use Rattle.profile.proofs.writer_rows.bad_numbers.Statement.{statement}
 use Rattle.profile.proofs.writer_rows.bad_numbers.Tie as tie

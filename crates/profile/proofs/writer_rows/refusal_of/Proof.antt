@@ -7,8 +7,8 @@ use denote.Ref.{now}
 use lib.ListN.{drop}
 use Rattle.text.specs.Rows.{Row, firstOf}
 use Rattle.text.proofs.Rows.{clear, rows-stop, rows-pass}
-use Rattle.profile.specs.Limits.{Profile}
-use Rattle.profile.specs.Columns.{profileIn}
+use Rattle.table.specs.Limits.{Profile}
+use Rattle.table.specs.Columns.{profileIn}
 use Rattle.profile.specs.Fields.{FieldSet, fieldSet}
 use Rattle.profile.specs.Writer.{rangeRows, bytesRows, columnRows}
 use Rattle.profile.proofs.writer_rows.refusal_of.Statement.{statement}

@@ -5,7 +5,7 @@ use borrow.Author.Needs.{needs}
 use denote.Ref.{now}
 use Rattle.text.specs.Text.{text}
 use Rattle.text.proofs.Wrote.{AllFit, First, Next, first-room, first-wrote, next-room, next-wrote, chain-sum}
-use Rattle.profile.specs.Columns.{profileIn}
+use Rattle.table.specs.Columns.{profileIn}
 use Rattle.profile.specs.Fields.{writeNumber}
 use Rattle.profile.specs.PieceTexts.{tagged}
 use Rattle.profile.proofs.writer_text.put_costs.Statement.{statement}

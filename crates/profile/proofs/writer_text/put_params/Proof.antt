@@ -6,7 +6,7 @@ use borrow.Author.Needs.{needs}
 use denote.Ref.{now}
 use lib.ListN.{length}
 use Rattle.text.proofs.Wrote.{wrote-length}
-use Rattle.profile.specs.Columns.{profileIn}
+use Rattle.table.specs.Columns.{profileIn}
 use Rattle.profile.specs.PieceTexts.{itemsText}
 use Rattle.profile.proofs.Texts.{dollared-length}
 use Rattle.profile.proofs.WriterLaws.{wrote-none, wrote-dollar}

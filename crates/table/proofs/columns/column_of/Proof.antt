@@ -1,0 +1,42 @@
+-- `table::columns::column_of` meets its contract. Assumes nothing.
+use Prim.Native.Nat.{ℕ}
+use mathlib.Core.Path.{_∙_, ap}
+use borrow.Author.Needs.{needs}
+use Rattle.table.specs.Limits.{argon2, pbkdf2}
+use Rattle.table.specs.Columns.{nameAt}
+use Rattle.table.proofs.ColumnLaws.{entry-none, entry-argon2, entry-pbkdf2, entry-other}
+use Rattle.table.proofs.columns.column_of.Statement.{statement}
+use Rattle.table.proofs.columns.column_of.Tie as tie
+
+returns : tie.Need-returns
+returns c = c .nobody .ensures ∙ entry-none (c .before .before .args .id) (c .before .if1 .taken)
+
+returns-2 : tie.Need-returns-2
+returns-2 c =
+    let i = c .before in
+    let id = i .before .before .before .args .id in
+    c .argon2 .ensures ∙ ap (λ (k : ℕ). argon2 (nameAt k)) (i .index .ensures) ∙ entry-argon2 id (i .before .before .if1 .left) (i .before .if2 .taken)
+
+returns-3 : tie.Need-returns-3
+returns-3 c =
+    let i = c .before in
+    let id = i .before .before .before .before .args .id in
+    c .pbkdf2 .ensures ∙ ap (λ (k : ℕ). pbkdf2 (nameAt k)) (i .index2 .ensures) ∙ entry-pbkdf2 id (i .before .before .if2 .left) (i .before .if3 .taken)
+
+returns-4 : tie.Need-returns-4
+returns-4 c = c .nobody2 .ensures ∙ entry-other (c .before .before .before .before .args .id) (c .before .if3 .left)
+
+pub column-of-spec : {M : Type 1} → statement M
+column-of-spec =
+    tie.close
+    (tie.spec
+    (λ c κs. search needs)
+    returns
+    (λ c κs. search needs)
+    (λ c κs. search needs)
+    returns-2
+    (λ c κs. search needs)
+    (λ c κs. search needs)
+    returns-3
+    (λ c κs. search needs)
+    returns-4)

@@ -1,0 +1,11 @@
+-- `table::omitted::left_out` meets its contract. Assumes nothing.
+use borrow.Author.Needs.{needs}
+use Rattle.table.proofs.omitted.left_out.Statement.{statement}
+use Rattle.table.proofs.omitted.left_out.Tie as tie
+
+returns-2 : tie.Need-returns-2
+returns-2 c = rw (c .before .rule .given .1)
+
+pub left-out-spec : {M : Type 1} → statement M
+left-out-spec =
+    tie.close (tie.spec (λ c. search needs) (λ c. search needs) (λ c. search needs) (λ c. search needs) returns-2 (λ c. search needs))

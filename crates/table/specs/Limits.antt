@@ -1,0 +1,186 @@
+-- What a profile allows, as a table: one entry for each id, in the order of the ids' numbers. An edition of the rules is such a table.
+-- Assumes nothing.
+use Prim.Native.Nat.{ℕ, zero, suc}
+use mathlib.Core.Bool.{Bool, true, false, cond, _&&_}
+use mathlib.Core.List.{List, [], _∷_}
+use mathlib.Core.Option.{none, some}
+use lib.Dec.{eqb}
+use lib.ListN.{getD}
+use Rattle.text.specs.Text.{text, within, same, has}
+use Rattle.grammar.specs.Pieces.{Slot}
+use Rattle.table.specs.declared.limits.NumberRule.{NumberRule}
+use Rattle.table.specs.declared.limits.NumberRule.the-variants.{Needed, Omitted, Fixed}
+use Rattle.table.specs.declared.limits.BytesRule.{BytesRule}
+use Rattle.table.specs.declared.limits.BytesRule.the-variants.{Sized, Barred}
+use Rattle.table.specs.declared.limits.Usual.{Usual}
+use Rattle.table.specs.declared.version.Version.{Version}
+use Rattle.table.specs.declared.version.Version.the-variants.{Absent, Number}
+
+-- 01's profile, a column of its table. `ad` is its `data`, a reserved word here. Ids keep their numbers in every edition, so an entry says
+-- whether its id is known. `versions` are those that may be written; in every profile a version may also be absent. `unwritten` is the
+-- algorithm version that a string without a version means
+pub record Profile : Type 0 where
+  pub known : Bool
+  pub name : List ℕ
+  pub versions : List ℕ
+  pub unwritten : ℕ
+  pub m : NumberRule
+  pub t : NumberRule
+  pub p : NumberRule
+  pub keyid : BytesRule
+  pub ad : BytesRule
+  pub salt : BytesRule
+  pub output : BytesRule
+  pub usual : Usual
+
+-- ---- what an entry says of a number
+
+abbrev pub lowest : NumberRule → ℕ
+lowest (Needed low high) = low
+lowest (Omitted low high given) = low
+lowest (Fixed given) = given
+
+abbrev pub highest : NumberRule → ℕ
+highest (Needed low high) = high
+highest (Omitted low high given) = high
+highest (Fixed given) = given
+
+abbrev pub inRange : NumberRule → ℕ → Bool
+inRange r n = within (lowest r) (highest r) n
+
+-- a number is missing where it is needed, or there where it is no parameter; the slot is its text, where there is one
+abbrev pub misplacedNumber : NumberRule → Slot → Bool
+misplacedNumber (Needed low high) none = true
+misplacedNumber (Needed low high) (some t) = false
+misplacedNumber (Omitted low high given) s = false
+misplacedNumber (Fixed given) none = false
+misplacedNumber (Fixed given) (some t) = true
+
+-- what stands for one that is left out
+abbrev pub given : NumberRule → ℕ
+given (Needed low high) = 0
+given (Omitted low high n) = n
+given (Fixed n) = n
+
+-- left out of the string: what an omitted one means, or no parameter
+abbrev pub leftOut : NumberRule → ℕ → Bool
+leftOut (Needed low high) n = false
+leftOut (Omitted low high given) n = eqb n given
+leftOut (Fixed given) n = true
+
+-- ---- of a byte string's size, and of a version
+
+abbrev pub isSize : BytesRule → ℕ → Bool
+isSize (Sized low high) n = within (low .0) (high .0) n
+isSize Barred n = false
+
+-- absent, or one of those listed
+abbrev pub versionAllowed : List ℕ → Version → Bool
+versionAllowed vs Absent = true
+versionAllowed vs (Number n) = has n vs
+
+-- ---- ids and their numbers
+
+-- one more, but 0 stays 0
+abbrev pub next : ℕ → ℕ
+next zero = zero
+next (suc n) = suc (suc n)
+
+-- the number of an id text, counted from 1; 0 for an unknown one
+abbrev pub idOf : List Profile → List ℕ → ℕ
+idOf [] s = 0
+idOf (r ∷ rs) s = cond (r .known && same s (r .name)) 1 (next (idOf rs s))
+
+-- the entry of a number that is no id's
+abbrev pub nobody : Profile
+nobody =
+    record {
+      known = false;
+      name = [];
+      versions = [];
+      unwritten = 0;
+      m = Fixed 0;
+      t = Fixed 0;
+      p = Fixed 0;
+      keyid = Barred;
+      ad = Barred;
+      salt = Barred;
+      output = Barred;
+      usual = record { version = Absent; m = 0; t = 0; p = 0 };
+    }
+
+abbrev pub profileOf : List Profile → ℕ → Profile
+profileOf rs k = getD (nobody ∷ rs) k nobody
+
+-- ---- the table
+
+-- a size, in bytes
+abbrev pub sized : ℕ → ℕ → BytesRule
+sized low high = Sized (record { 0 = low }) (record { 0 = high })
+
+abbrev pub largest32 : ℕ
+largest32 = 4294967295
+
+-- the version that an Argon2 string without one means
+abbrev pub absentMeans : ℕ
+absentMeans = 19
+
+-- the short writer's numbers
+abbrev pub argon2Usual : Usual
+argon2Usual = record { version = Number 19; m = 65536; t = 2; p = 1 }
+
+-- what an omitted t means for pbkdf2, and the short writer's t
+abbrev pub omittedT : ℕ
+omittedT = 20000
+
+abbrev pub pbkdf2Usual : Usual
+pbkdf2Usual = record { version = Absent; m = 0; t = omittedT; p = 0 }
+
+-- m by itself is at least 1; that it is at least 8p is a row of its own, after the three numbers
+abbrev pub argon2 : List ℕ → Profile
+argon2 name =
+    record {
+      known = true;
+      name = name;
+      versions = 16 ∷ 19 ∷ [];
+      unwritten = absentMeans;
+      m = Needed 1 largest32;
+      t = Needed 1 largest32;
+      p = Needed 1 255;
+      keyid = sized 0 8;
+      ad = sized 0 32;
+      salt = sized 8 48;
+      output = sized 12 64;
+      usual = argon2Usual;
+    }
+
+abbrev pub pbkdf2 : List ℕ → Profile
+pbkdf2 name =
+    record {
+      known = true;
+      name = name;
+      versions = [];
+      unwritten = 0;
+      m = Fixed 0;
+      t = Omitted 100 largest32 omittedT;
+      p = Fixed 0;
+      keyid = sized 0 8;
+      ad = Barred;
+      salt = sized 4 32;
+      output = sized 12 64;
+      usual = pbkdf2Usual;
+    }
+
+-- edition two: document 01's table
+unfoldable pub editionTwo : List Profile
+editionTwo =
+    argon2 (text "argon2d")
+    ∷ argon2 (text "argon2i")
+    ∷ argon2 (text "argon2id")
+    ∷ pbkdf2 (text "pbkdf2s2")
+    ∷ pbkdf2 (text "pbkdf2s3")
+    ∷ []
+
+-- the bytes that every permitted string of edition two fits (`Lengths` in specs/Claims.antt)
+abbrev pub room : ℕ
+room = 265

@@ -1,0 +1,49 @@
+// Whether a number, a size or a version lies within its rule.
+use crate::limits::BytesRule;
+use crate::limits::NumberRule;
+use crate::limits::Versions;
+use crate::ranges::highest_of;
+use crate::ranges::lowest_of;
+use crate::version::Version;
+use text::units::Bytes;
+ghost use mathlib.Core.Path.{_≡_};
+ghost use Rattle.text.specs.Text.{has};
+ghost use Rattle.table.specs.Limits.{inRange, isSize, versionAllowed};
+ghost use Rattle.table.specs.Columns.{listed};
+
+pub fn in_range(rule: NumberRule, n: u32) -> bool
+    ensures { λ r. ⌜ r ≡ inRange rule n ⌝ }
+{
+    lowest_of(rule) <= n && n <= highest_of(rule)
+}
+
+pub fn is_size(rule: BytesRule, size: Bytes) -> bool
+    ensures { λ r. ⌜ r ≡ isSize rule (size .0) ⌝ }
+{
+    match rule {
+        BytesRule::Sized { low, high } => {
+            let n = size.0;
+            low.0 <= n && n <= high.0
+        }
+        BytesRule::Barred => false,
+    }
+}
+
+fn is_listed(versions: Versions, n: u32) -> bool
+    ensures { λ r. ⌜ r ≡ has n (listed versions) ⌝ }
+{
+    match versions {
+        Versions::Never => false,
+        Versions::Either(a, b) => a == n || b == n,
+    }
+}
+
+// Absent, or one of those that may be written.
+pub fn version_allowed(versions: Versions, version: Version) -> bool
+    ensures { λ r. ⌜ r ≡ versionAllowed (listed versions) version ⌝ }
+{
+    match version {
+        Version::Absent => true,
+        Version::Number(n) => is_listed(versions, n),
+    }
+}

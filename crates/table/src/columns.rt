@@ -1,0 +1,131 @@
+// Document 01's table: the column of each id.
+use crate::limits::BytesRule;
+use crate::limits::Column;
+use crate::limits::NumberRule;
+use crate::limits::Usual;
+use crate::limits::Versions;
+use crate::version::Version;
+use text::units::Bytes;
+ghost use mathlib.Core.Path.{_≡_};
+ghost use Rattle.table.specs.Limits.{nobody as nobodys, argon2 as argon2s, pbkdf2 as pbkdf2s, profileOf, editionTwo};
+ghost use Rattle.table.specs.Columns.{nameAt, profileIn};
+
+const LARGEST: u32 = 4294967295;
+
+// The iterations of pbkdf2 where `t` is left out; the short writer's too.
+const OMITTED_T: u32 = 20000;
+
+fn sized(low: usize, high: usize) -> BytesRule
+    ensures { λ r. ⌜ r ≡ BytesRule.Sized (record { 0 = low }) (record { 0 = high }) ⌝ }
+{
+    BytesRule::Sized {
+        low: Bytes(low),
+        high: Bytes(high),
+    }
+}
+
+fn argon2(name: usize) -> Column
+    ensures { λ r. ⌜ profileIn r ≡ argon2s (nameAt name) ⌝ }
+{
+    Column {
+        known: true,
+        name,
+        versions: Versions::Either(16, 19),
+        unwritten: 19,
+        m: NumberRule::Needed {
+            low: 1,
+            high: LARGEST,
+        },
+        t: NumberRule::Needed {
+            low: 1,
+            high: LARGEST,
+        },
+        p: NumberRule::Needed { low: 1, high: 255 },
+        keyid: sized(0, 8),
+        ad: sized(0, 32),
+        salt: sized(8, 48),
+        output: sized(12, 64),
+        usual: Usual {
+            version: Version::Number(19),
+            m: 65536,
+            t: 2,
+            p: 1,
+        },
+    }
+}
+
+fn pbkdf2(name: usize) -> Column
+    ensures { λ r. ⌜ profileIn r ≡ pbkdf2s (nameAt name) ⌝ }
+{
+    Column {
+        known: true,
+        name,
+        versions: Versions::Never,
+        unwritten: 0,
+        m: NumberRule::Fixed { given: 0 },
+        t: NumberRule::Omitted {
+            low: 100,
+            high: LARGEST,
+            given: OMITTED_T,
+        },
+        p: NumberRule::Fixed { given: 0 },
+        keyid: sized(0, 8),
+        ad: BytesRule::Barred,
+        salt: sized(4, 32),
+        output: sized(12, 64),
+        usual: Usual {
+            version: Version::Absent,
+            m: 0,
+            t: OMITTED_T,
+            p: 0,
+        },
+    }
+}
+
+fn nobody() -> Column
+    ensures { λ r. ⌜ profileIn r ≡ nobodys ⌝ }
+{
+    let none = NumberRule::Fixed { given: 0 };
+    let barred = BytesRule::Barred;
+    Column {
+        known: false,
+        name: 0,
+        versions: Versions::Never,
+        unwritten: 0,
+        m: none,
+        t: none,
+        p: none,
+        keyid: barred,
+        ad: barred,
+        salt: barred,
+        output: barred,
+        usual: Usual {
+            version: Version::Absent,
+            m: 0,
+            t: 0,
+            p: 0,
+        },
+    }
+}
+
+fn index(id: u8) -> usize
+    ensures { λ r. ⌜ r ≡ id ⌝ }
+{
+    id as usize
+}
+
+// The column of an id by its number; of another number it is nobody's.
+pub fn column_of(id: u8) -> Column
+    ensures { λ r. ⌜ profileIn r ≡ profileOf editionTwo id ⌝ }
+{
+    if id < 1 {
+        return nobody();
+    }
+    if id < 4 {
+        return argon2(index(id));
+    }
+    if id < 6 {
+        return pbkdf2(index(id));
+    }
+    nobody()
+}

@@ -1,0 +1,50 @@
+// What a profile says, as plain data (specs/Limits.antt).
+use crate::version::Version;
+use text::units::Bytes;
+
+// The bytes that every permitted string fits.
+pub const ROOM: usize = 265;
+
+// A number parameter: always written; left out where it is `given`; or none of this id's, and `given`.
+pub enum NumberRule {
+    Needed { low: u32, high: u32 },
+    Omitted { low: u32, high: u32, given: u32 },
+    Fixed { given: u32 },
+}
+
+// A byte string: of `low` to `high` bytes, left out where it is empty; or always empty.
+pub enum BytesRule {
+    Sized { low: Bytes, high: Bytes },
+    Barred,
+}
+
+// The versions that may be written: none, or one of two. A version may always be absent.
+pub enum Versions {
+    Never,
+    Either(u32, u32),
+}
+
+// The numbers that the short writer uses.
+pub struct Usual {
+    pub version: Version,
+    pub m: u32,
+    pub t: u32,
+    pub p: u32,
+}
+
+// A column of document 01's table. `name` is an index into the names (src/names.rt), `unwritten` the algorithm version that a string
+// without a version means, `ad` the associated data, 01's `data`.
+pub struct Column {
+    pub known: bool,
+    pub name: usize,
+    pub versions: Versions,
+    pub unwritten: u32,
+    pub m: NumberRule,
+    pub t: NumberRule,
+    pub p: NumberRule,
+    pub keyid: BytesRule,
+    pub ad: BytesRule,
+    pub salt: BytesRule,
+    pub output: BytesRule,
+    pub usual: Usual,
+}
