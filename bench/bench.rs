@@ -1,6 +1,7 @@
 //! Times readers of PHC strings, in turn and on the same strings.
 //!
 //! A peer takes part where its cfg is set: `argon2` is libargon2, `password_hash` is RustCrypto's password-hash.
+//! The second table is of long strings, all refused: a ratio there that is past its limit ends the run non-zero.
 
 #[allow(dead_code)]
 #[path = "../tests/library.rs"]
@@ -13,7 +14,7 @@ mod reference;
 use library::*;
 use std::ffi::CString;
 use std::hint::black_box;
-use std::time::Instant;
+use std::time::{Duration, Instant};
 
 const ROUNDS: usize = 15;
 const CALLS: u64 = 100_000;
@@ -34,8 +35,8 @@ const STRINGS: [(&str, &str, bool); 4] = [
 ];
 
 /// A string, as each reader takes it.
-struct Text {
-    text: &'static str,
+struct Text<'a> {
+    text: &'a str,
     #[cfg_attr(not(argon2), allow(dead_code))]
     terminated: CString,
 }
@@ -93,6 +94,18 @@ fn read_all_calls(s: &Text, calls: u64) -> u64 {
         let accepted = read_all_once(black_box(s.text), &mut record, &mut bytes);
         black_box((&record, &bytes));
         accepted
+    })
+}
+
+/// The plain reader alone, by an entry that has no fast path before it.
+fn salt_calls(s: &Text, calls: u64) -> u64 {
+    let mut buffer = [0; PHC_BYTES];
+    repeat(calls, || {
+        let s = black_box(s.text);
+        // SAFETY: both slices are whole and apart.
+        let answer = unsafe { phc_salt(s.as_ptr(), s.len(), buffer.as_mut_ptr(), buffer.len()) };
+        black_box(&buffer);
+        answer == 0 || answer >= 100
     })
 }
 
@@ -282,10 +295,14 @@ mod rustcrypto {
 
 // The run.
 
+const READ: Reader = Reader { name: "phc_read", calls: read_calls, fields: None, peer: false };
+const READ_ALL: Reader = Reader { name: "phc_read_all", calls: read_all_calls, fields: Some(read_all_fields), peer: false };
+const PLAIN: Reader = Reader { name: "plain reader", calls: salt_calls, fields: None, peer: false };
+
 fn readers() -> Vec<Reader> {
     vec![
-        Reader { name: "phc_read", calls: read_calls, fields: None, peer: false },
-        Reader { name: "phc_read_all", calls: read_all_calls, fields: Some(read_all_fields), peer: false },
+        READ,
+        READ_ALL,
         #[cfg(argon2)]
         Reader { name: "libargon2", calls: argon2::calls, fields: Some(argon2::fields), peer: true },
         #[cfg(password_hash)]
@@ -315,10 +332,14 @@ fn takes_part(reader: &Reader, s: &Text, good: bool) -> bool {
     accepted
 }
 
-fn nanoseconds(reader: &Reader, s: &Text) -> f64 {
+fn time(reader: &Reader, s: &Text, calls: u64) -> Duration {
     let start = Instant::now();
-    black_box((reader.calls)(s, CALLS));
-    start.elapsed().as_nanos() as f64 / CALLS as f64
+    black_box((reader.calls)(s, calls));
+    start.elapsed()
+}
+
+fn nanoseconds(reader: &Reader, s: &Text, calls: u64) -> f64 {
+    time(reader, s, calls).as_nanos() as f64 / calls as f64
 }
 
 /// The samples at a quarter, the half and three quarters.
@@ -328,7 +349,7 @@ fn quartiles(samples: &[f64]) -> [f64; 3] {
     [1, 2, 3].map(|quarter| sorted[sorted.len() * quarter / 4])
 }
 
-fn main() {
+fn compare_readers() {
     let readers = readers();
     println!("{ROUNDS} rounds, each of {CALLS} calls of every reader in turn. Buffers are not cleared before a call.");
     println!("Ratio: to the fastest peer that also decodes; of the ratios in each round, the median.");
@@ -344,7 +365,7 @@ fn main() {
             for turn in 0..readers.len() {
                 let i = (round + turn) % readers.len();
                 if taking_part[i] {
-                    let time = nanoseconds(&readers[i], &s);
+                    let time = nanoseconds(&readers[i], &s, CALLS);
                     if round > 0 {
                         samples[i].push(time);
                     }
@@ -370,4 +391,98 @@ fn main() {
             }
         }
     }
+}
+
+// Long strings.
+
+/// The longest string of the grammar, one past it, and one far past it.
+const WHOLE: usize = 2_896;
+const PAST: usize = 3_000;
+const FAR_PAST: usize = 100_000_000;
+
+/// Of the plain reader's time, and of the time for the string just past the grammar.
+const MOST_OF_PLAIN: f64 = 1.1;
+const MOST_OF_PAST: f64 = 2.0;
+
+/// Many short rounds: what disturbs one of them disturbs few ratios.
+const LONG_ROUNDS: usize = 101;
+/// About the time of one sample, whatever a call costs.
+const SAMPLE: Duration = Duration::from_micros(200);
+
+fn filled(beginning: &str, filler: u8, len: usize) -> String {
+    let mut bytes = beginning.as_bytes().to_vec();
+    bytes.resize(len, filler);
+    String::from_utf8(bytes).unwrap()
+}
+
+fn calls_in_sample(reader: &Reader, s: &Text) -> u64 {
+    let mut calls = 1;
+    while calls < CALLS && time(reader, s, calls) < SAMPLE {
+        calls *= 2;
+    }
+    calls
+}
+
+/// Times readers on refused strings, in turn, and shows their ratios to the first. The rows past the limit are given back.
+fn compare_long(name: &str, timed: &[(&Reader, &str)], most: f64) -> Vec<String> {
+    // No reader here takes the terminated string.
+    let timed: Vec<(&Reader, Text)> =
+        timed.iter().map(|(reader, text)| (*reader, Text { text, terminated: CString::default() })).collect();
+    let calls: Vec<u64> = timed.iter().map(|(reader, s)| calls_in_sample(reader, s)).collect();
+    let mut samples = vec![Vec::new(); timed.len()];
+    for round in 0..LONG_ROUNDS {
+        for turn in 0..timed.len() {
+            let i = (round + turn) % timed.len();
+            let (reader, s) = &timed[i];
+            samples[i].push(nanoseconds(reader, s, calls[i]));
+        }
+    }
+    let mut past = Vec::new();
+    for ((reader, s), times) in timed.iter().zip(&samples) {
+        assert_eq!((reader.calls)(s, 1), 0, "{} accepts {name}", reader.name);
+        let [low, median, high] = quartiles(times);
+        let ratios: Vec<f64> = times.iter().zip(&samples[0]).map(|(time, first)| time / first).collect();
+        let ratio = quartiles(&ratios)[1];
+        let row = format!("| {name}, {} bytes | {} | {median:.1} | {low:.1}..{high:.1} | {ratio:.2} |", s.text.len(), reader.name);
+        println!("{row}");
+        if ratio > most {
+            past.push(row);
+        }
+    }
+    past
+}
+
+fn refuse_long() {
+    println!("Long strings, all refused: {LONG_ROUNDS} rounds, each of {} us or more of calls in turn.", SAMPLE.as_micros());
+    println!("Ratio: at {WHOLE} bytes to the plain reader, at most {MOST_OF_PLAIN}; of {FAR_PAST} to {PAST}, at most {MOST_OF_PAST}.");
+    println!();
+    println!("| string | reader | ns a call, median | quartiles | ratio |");
+    println!("|---|---|---|---|---|");
+    let items = vec![["n".repeat(32), "0".repeat(128)].join("="); 16].join(",");
+    let whole = ["", &"i".repeat(32), "v=4294967295", &items, &"s".repeat(128), &"A".repeat(128)].join("$");
+    let strings = [
+        ("id of letters", filled("$", b'a', WHOLE), 2),
+        ("version of zeros", filled("$argon2id$v=", b'0', WHOLE), 3),
+        ("m of zeros", filled("$argon2id$m=", b'0', WHOLE), 4),
+        ("16 items, long salt", filled(&format!("$argon2id$v=19${items}$"), b'A', WHOLE), 5),
+        ("longest of the grammar", whole, 8),
+    ];
+    let mut past = Vec::new();
+    for (name, text, number) in &strings {
+        assert_eq!((text.len(), reference::read(text.as_bytes()).err()), (WHOLE, Some(*number)), "{name}");
+        past.extend(compare_long(name, &[(&PLAIN, text), (&READ, text), (&READ_ALL, text)], MOST_OF_PLAIN));
+    }
+    for (name, beginning, filler) in [("id of letters", "$", b'a'), ("version of zeros", "$argon2id$v=", b'0')] {
+        let text = filled(beginning, filler, FAR_PAST);
+        for reader in [&READ, &READ_ALL] {
+            past.extend(compare_long(name, &[(reader, &text[..PAST]), (reader, &text)], MOST_OF_PAST));
+        }
+    }
+    assert!(past.is_empty(), "ratios past their limit:\n{}", past.join("\n"));
+}
+
+fn main() {
+    compare_readers();
+    println!();
+    refuse_long();
 }

@@ -33,4 +33,9 @@ impl Rng {
     pub fn bytes(&mut self, len: usize) -> Vec<u8> {
         (0..len).map(|_| self.next() as u8).collect()
     }
+
+    /// So many of a set.
+    pub fn of(&mut self, set: &[u8], len: usize) -> Vec<u8> {
+        (0..len).map(|_| self.pick(set)).collect()
+    }
 }

@@ -4,14 +4,16 @@ mod chance;
 mod fields;
 mod lent;
 mod library;
+mod long;
 mod mutations;
 mod reference;
 
 use chance::Rng;
-use fields::{any_good_fields, good_fields, numbers, push_to_limit, spell, Arguments, ID_NUMBERS, VERSIONS};
+use fields::{any_good_fields, good_fields, highest_fields, numbers, push_to_limit, spell, Arguments, ID_NUMBERS, VERSIONS};
 use lent::Lent;
 use library::*;
-use mutations::{mutate, ALPHABET, NUMERALS};
+use long::{beginnings, fillers, longer_than_profiles, longest_of_grammar, stretched, GRAMMAR_ROOM, LENGTHS, LONGEST};
+use mutations::{mutate, ALPHABET, NAME, NUMERALS, TEXT};
 use reference::{Fields, IDS};
 use std::collections::{HashMap, HashSet};
 use std::fmt::Debug;
@@ -49,9 +51,14 @@ struct Run {
     read: u64,
     good: u64,
     written: u64,
-    longest: usize,
+    longest_written: usize,
+    longest_read: usize,
+    /// Strings longer than any of the grammar.
+    past_grammar: u64,
     /// Answers seen, by number.
     reader_numbers: [u64; 18],
+    /// Those to strings longer than any of the profiles.
+    past_profiles: [u64; 18],
     read_all_numbers: [u64; 18],
     writer_numbers: [u64; 18],
 }
@@ -60,9 +67,9 @@ impl Run {
     fn same<T: PartialEq + Debug>(&self, what: &str, input: &dyn Fn() -> String, library: &T, reference: &T) {
         if library != reference {
             println!("mismatch in {what}, seed {}", self.seed);
-            println!("input:     {}", input());
-            println!("library:   {library:?}");
-            println!("reference: {reference:?}");
+            println!("input:     {}", ends(input()));
+            println!("library:   {}", ends(format!("{library:?}")));
+            println!("reference: {}", ends(format!("{reference:?}")));
             exit(1);
         }
     }
@@ -81,7 +88,7 @@ impl Run {
         };
         // SAFETY: both slices are whole and apart; NULL goes with the length 0 only.
         let given = unsafe { entry(string.ptr(), string.len, buffer.ptr(), buffer.len) };
-        let input = || format!("\"{}\" with room {room}", s.escape_ascii());
+        let input = || format!("\"{}\" of {} bytes with room {room}", s.escape_ascii(), s.len());
         self.same(name, &input, &given, &answer);
         self.same(&format!("{name}'s buffer and its guards"), &input, &buffer.memory, &buffer_after);
         self.same(&format!("{name}'s string and its guards"), &input, &string.memory, &string_after);
@@ -102,7 +109,10 @@ impl Run {
         };
         // SAFETY: the slices are whole and apart; NULL goes with the length 0 only.
         let given = unsafe { phc_read_all(string.ptr(), string.len, record.ptr(), record.len, buffer.ptr(), buffer.len) };
-        let input = || format!("\"{}\" with room {record_room} for the record and {buffer_room} for the bytes", s.escape_ascii());
+        let input = || {
+            let rooms = format!("room {record_room} for the record and {buffer_room} for the bytes");
+            format!("\"{}\" of {} bytes with {rooms}", s.escape_ascii(), s.len())
+        };
         self.same("phc_read_all", &input, &given, &u64::from(answer));
         self.same("phc_read_all's record and its guards", &input, &record.memory, &record_after);
         self.same("phc_read_all's buffer and its guards", &input, &buffer.memory, &buffer_after);
@@ -134,7 +144,11 @@ impl Run {
         }
 
         self.cases += 1;
-        self.reader_numbers[usize::from(*expected.as_ref().err().unwrap_or(&0))] += 1;
+        self.longest_read = self.longest_read.max(s.len());
+        self.past_grammar += u64::from(s.len() > GRAMMAR_ROOM);
+        let number = usize::from(*expected.as_ref().err().unwrap_or(&0));
+        self.reader_numbers[number] += 1;
+        self.past_profiles[number] += u64::from(s.len() > PHC_ROOM);
         if let Ok((_, fields)) = expected {
             self.read += 1;
             let again = reference::write(&fields);
@@ -182,11 +196,20 @@ impl Run {
         self.writer_numbers[usize::from(*answer.as_ref().err().unwrap_or(&0))] += 1;
         if let Ok(s) = answer {
             self.written += 1;
-            self.longest = self.longest.max(s.len());
+            self.longest_written = self.longest_written.max(s.len());
             let fields = reference::read(&s).map(|(_, fields)| fields);
             self.same("the reference's own way forth", &|| format!("{arguments:?}"), &Ok(arguments.meaning()), &fields);
         }
     }
+}
+
+/// A text to be shown; of a very long one its two ends.
+fn ends(text: String) -> String {
+    const SHOWN: usize = 10_000;
+    if text.len() <= 2 * SHOWN {
+        return text;
+    }
+    format!("{} .. {}", &text[..SHOWN], &text[text.len() - SHOWN..])
 }
 
 fn byte_strings(f: &Fields) -> [&[u8]; 4] {
@@ -229,13 +252,8 @@ fn both_ways(run: &mut Run, a: &Arguments) {
 }
 
 fn generated(run: &mut Run) {
-    // Every field at its high end, for the longest strings.
     for id in 1..=5 {
-        let limits = reference::limits(id).unwrap();
-        let [keyid, data, salt, output] =
-            [&limits.keyid, &limits.data, &limits.salt, &limits.output].map(|range| run.rng.bytes(*range.end()));
-        let (m, t, p) = (*limits.m.end(), *limits.t.end(), *limits.p.end());
-        let fields = Fields { id, version: limits.versions.last().copied(), m, t, p, keyid, data, salt, output };
+        let fields = highest_fields(&mut run.rng, id);
         // Often enough for a room that suffices.
         for _ in 0..20 {
             both_ways(run, &Arguments::of(&fields));
@@ -294,9 +312,6 @@ fn generated(run: &mut Run) {
 // The grammar's limits.
 
 fn grammar_limits(run: &mut Run) {
-    let of = |rng: &mut Rng, set: &[u8], len: usize| -> Vec<u8> { (0..len).map(|_| rng.pick(set)).collect() };
-    let text = |rng: &mut Rng, len: usize| of(rng, b"abzAZ09/+.-", len);
-    let name = |rng: &mut Rng, len: usize| of(rng, b"abz09-", len);
     for _ in 0..20_000 {
         let rng = &mut run.rng;
         // One length in eight breaks its rule.
@@ -307,7 +322,7 @@ fn grammar_limits(run: &mut Run) {
             _ => high,
         };
         let id_len = len(rng, 32);
-        let id = if rng.once_in(2) { rng.pick(&IDS).as_bytes().to_vec() } else { name(rng, id_len) };
+        let id = if rng.once_in(2) { rng.pick(&IDS).as_bytes().to_vec() } else { rng.of(NAME, id_len) };
         let mut s = [b"$".to_vec(), id].concat();
         if !rng.once_in(3) {
             s.extend(b"$v=");
@@ -318,7 +333,7 @@ fn grammar_limits(run: &mut Run) {
             let mut items = Vec::new();
             for _ in 0..count {
                 let (name_len, value_len) = if rng.once_in(8) { (len(rng, 32), len(rng, 128)) } else { (32, 128) };
-                items.push([name(rng, name_len), text(rng, value_len)].join(&b'='));
+                items.push([rng.of(NAME, name_len), rng.of(TEXT, value_len)].join(&b'='));
             }
             s.push(b'$');
             s.extend(items.join(&b','));
@@ -326,7 +341,7 @@ fn grammar_limits(run: &mut Run) {
         for piece in 0..rng.below(4) {
             let len = len(rng, 128);
             s.push(b'$');
-            s.extend(if piece == 0 { text(rng, len) } else { reference::b64_encode(&vec![0xa5; len * 3 / 4]) });
+            s.extend(if piece == 0 { rng.of(TEXT, len) } else { reference::b64_encode(&vec![0xa5; len * 3 / 4]) });
             if piece == 1 && len > 128 {
                 s.push(b'A');
             }
@@ -371,11 +386,36 @@ fn random(run: &mut Run) {
         let len = if rng.once_in(200) { 2_800 + rng.below(200) } else { rng.below(64) };
         let mut s: Vec<u8> = match round % 3 {
             0 => rng.bytes(len),
-            _ => (0..len).map(|_| rng.pick(ALPHABET)).collect(),
+            _ => rng.of(ALPHABET, len),
         };
         if round % 3 == 2 {
             s.splice(0..0, format!("${}$", rng.pick(&IDS)).into_bytes());
         }
+        run.compare_string(&s);
+    }
+}
+
+// Long strings.
+
+fn long_strings(run: &mut Run) {
+    for beginning in beginnings(&mut run.rng) {
+        for filler in fillers(&mut run.rng) {
+            let between = 3_000 + run.rng.below(LONGEST - 3_000);
+            for len in LENGTHS.into_iter().chain([between]) {
+                run.compare_string(&stretched(&beginning, &filler, len));
+            }
+        }
+    }
+    for _ in 0..5_000 {
+        let s = longer_than_profiles(&mut run.rng);
+        run.compare_string(&s);
+    }
+    for _ in 0..500 {
+        let mut s = longest_of_grammar(&mut run.rng);
+        assert_eq!((s.len(), reference::read(&s).err()), (GRAMMAR_ROOM, Some(8)), "the longest string of the grammar");
+        run.compare_string(&s);
+        let place = run.rng.below(s.len() + 1);
+        s.insert(place, run.rng.pick(ALPHABET));
         run.compare_string(&s);
     }
 }
@@ -530,8 +570,11 @@ fn main() {
         read: 0,
         good: 0,
         written: 0,
-        longest: 0,
+        longest_written: 0,
+        longest_read: 0,
+        past_grammar: 0,
         reader_numbers: [0; 18],
+        past_profiles: [0; 18],
         read_all_numbers: [0; 18],
         writer_numbers: [0; 18],
     };
@@ -541,10 +584,17 @@ fn main() {
     grammar_limits(&mut run);
     mutations(&mut run);
     random(&mut run);
+    long_strings(&mut run);
     buffers(&mut run);
     good_strings(&mut run);
 
     println!("{} cases compared, {} accepted by the reader, {} by the writer", run.cases, run.read, run.written);
+    println!(
+        "{} strings of more than {PHC_ROOM} bytes among them, {} of more than {GRAMMAR_ROOM}, the longest of {}",
+        run.past_profiles.iter().sum::<u64>(),
+        run.past_grammar,
+        run.longest_read
+    );
     println!("{} good strings more, all accepted", run.good);
 
     // A run that leaves a rule out shows nothing of it.
@@ -552,11 +602,15 @@ fn main() {
     for row in 0..=15 {
         assert!(run.reader_numbers[row] > 100, "the reader's number {row} came up too seldom");
     }
+    for row in 1..=15 {
+        assert!(run.past_profiles[row] > 50, "the number {row} of a long string came up too seldom");
+    }
     for row in (0..=15).chain([17]) {
         assert!(run.read_all_numbers[row] > 100, "the number {row} of phc_read_all came up too seldom");
     }
     for row in [0, 8, 9, 11, 12, 14, 15, 16, 17] {
         assert!(run.writer_numbers[row] > 100, "the writer's number {row} came up too seldom");
     }
-    assert_eq!(run.longest, PHC_ROOM, "the longest string");
+    assert_eq!(run.longest_written, PHC_ROOM, "the longest string");
+    assert!(run.past_grammar > 4_000 && run.longest_read == LONGEST, "too few long strings");
 }

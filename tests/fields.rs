@@ -67,6 +67,15 @@ pub fn good_fields(rng: &mut Rng, id: u8) -> Fields {
     Fields { id, version, m, t, p, keyid, data, salt, output }
 }
 
+/// Every field at its high end, for the longest strings.
+pub fn highest_fields(rng: &mut Rng, id: u8) -> Fields {
+    let limits = reference::limits(id).unwrap();
+    let [keyid, data, salt, output] =
+        [&limits.keyid, &limits.data, &limits.salt, &limits.output].map(|range| rng.bytes(*range.end()));
+    let (m, t, p) = (*limits.m.end(), *limits.t.end(), *limits.p.end());
+    Fields { id, version: limits.versions.last().copied(), m, t, p, keyid, data, salt, output }
+}
+
 pub fn any_good_fields(rng: &mut Rng) -> Fields {
     let id = 1 + rng.below(5) as u8;
     good_fields(rng, id)

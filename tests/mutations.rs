@@ -2,6 +2,10 @@
 
 use crate::chance::Rng;
 
+/// Of the sets of a name and of a value.
+pub const NAME: &[u8] = b"abz09-";
+pub const TEXT: &[u8] = b"abzAZ09/+.-";
+
 pub const ALPHABET: &[u8] = b"$$$$==,,,vmtpkeyidatargon2pbkdf2s3idABab0123456789+/.-";
 
 pub const NUMERALS: [&str; 22] = [
