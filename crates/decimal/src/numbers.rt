@@ -1,4 +1,4 @@
 // Document 01's number for bad input that the reader of decimals gives.
 
-// A number not a permitted decimal, out of range, or m < 8p.
+// Of row 11: a text that is no permitted decimal, or out of range.
 pub const NOT_DECIMAL: u8 = 11;

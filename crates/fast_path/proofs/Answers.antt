@@ -18,7 +18,7 @@ use Rattle.profile.specs.Fields.{FieldSet, writeBytes}
 use Rattle.profile.specs.Reader.{answer, fieldsOf}
 use Rattle.profile.specs.Entries.{kindOf, reading}
 use Rattle.profile.specs.declared.fields.Reading.{Reading}
-use Rattle.profile.proofs.Table.{edition-two-sound}
+use Rattle.profile.proofs.SoundLaws.{edition-two-sound}
 use Rattle.profile.proofs.Accepted.{accepted}
 use Rattle.profile.proofs.ReadLaws.{reading-number}
 use Rattle.profile.proofs.Claims.{lengths, entries-agree-two}

@@ -22,7 +22,7 @@ use Rattle.table.specs.declared.limits.BytesRule.{BytesRule}
 use Rattle.table.specs.declared.version.Version.{Version}
 use Rattle.table.specs.declared.version.Version.the-variants.{Absent, Number}
 use Rattle.profile.specs.declared.fields.Fields.{Fields}
-use Rattle.fast_path.specs.Walk.{Taken, taken, numeralIn, writtenNumber, unwritten, numberIn, writtenBytes, bytesIn, allowed, versionIn, numbersIn, headIn, withStrings, afterId, walked}
+use Rattle.fast_path.specs.Walk.{Taken, taken, numeralIn, writtenNumber, omittedNumber, numberIn, writtenBytes, bytesIn, allowed, versionIn, numbersIn, headIn, withStrings, afterId, walked}
 
 -- ---- a number
 
@@ -42,7 +42,7 @@ module _ (r : NumberRule) (name : List ℕ) (separator : ℕ) (s : List ℕ) (at
   unfolding numberIn
   number-there e = rw (e, rest-at s name at)
 
-  pub number-absent : startsWith (separator ∷ name) (drop at s) ≡ false → numberIn r name separator (drop at s) ≡ unwritten r separator (drop at s)
+  pub number-absent : startsWith (separator ∷ name) (drop at s) ≡ false → numberIn r name separator (drop at s) ≡ omittedNumber r separator (drop at s)
   unfolding numberIn
   number-absent e = rw e
 

@@ -10,7 +10,7 @@ use Rattle.table.specs.Limits.{profileOf, editionTwo}
 use Rattle.table.specs.declared.limits.BytesRule.{BytesRule}
 use Rattle.profile.specs.Reader.{fieldsOf}
 use Rattle.profile.specs.Writer.{bytesAllowed}
-use Rattle.profile.proofs.Table.{edition-two-sound}
+use Rattle.profile.proofs.SoundLaws.{edition-two-sound}
 use Rattle.profile.proofs.Accepted.{accepted}
 use Rattle.fast_path.specs.WalkSteps.{most}
 use Rattle.fast_path.specs.Claims.{FastPathAgrees}

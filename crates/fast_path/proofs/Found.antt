@@ -21,7 +21,7 @@ use Rattle.profile.specs.PieceTexts.{tagged, piecesText}
 use Rattle.profile.specs.declared.fields.Fields.{Fields}
 use Rattle.profile.proofs.Texts.{formatted-is}
 use Rattle.profile.proofs.Allows.{here}
-use Rattle.profile.proofs.Table.{Entry, entry-at, name-of}
+use Rattle.profile.proofs.SoundLaws.{Entry, entry-at, name-of}
 use Rattle.fast_path.specs.Walk.{Taken, versionIn, numbersIn, Pair, pairIn, keysIn, hashesIn, headIn, afterId, walked}
 use Rattle.fast_path.proofs.ItemTexts.{items, Stands, stands-append, costItems, keyItems, fiveItems, hashesText, restText, pieces-row}
 use Rattle.fast_path.proofs.Stands.{number-then, bytes-then, VersionStands, version-stands}

@@ -1,4 +1,4 @@
--- What the walk takes stands there: each text that is found is the one that the writer puts for it, and the rest stands starts-behind it.
+-- What the walk takes stands there: each text that is found is the one that the writer puts for it, and the rest stands behind it.
 -- Assumes nothing.
 use Prim.Native.Nat.{ℕ, suc}
 use mathlib.Core.Bool.{true, false, not, _&&_, false≢true}
@@ -31,7 +31,7 @@ use Rattle.profile.specs.Sound.{soundNumber}
 use Rattle.profile.specs.Writer.{bytesAllowed}
 use Rattle.profile.specs.PieceTexts.{tagged}
 use Rattle.profile.proofs.Codecs.{version-back}
-use Rattle.fast_path.specs.Walk.{Taken, numeralIn, writtenNumber, unwritten, numberIn, bytesIn, versionIn}
+use Rattle.fast_path.specs.Walk.{Taken, numeralIn, writtenNumber, omittedNumber, numberIn, bytesIn, versionIn}
 use Rattle.fast_path.proofs.ItemTexts.{Stands}
 
 -- ---- one number
@@ -50,7 +50,7 @@ written-slot r n e = rw (is-false (leftOut r n) e)
 abbrev pub NumberStands : NumberRule → List ℕ → ℕ → List ℕ → Taken ℕ → Type 0
 NumberStands r name separator t x = (inRange r (x .found) ≡ true) × Stands separator ((name, writeNumber r (x .found)) ∷ []) t (x .separator) (x .rest)
 
-left-stands : (r : NumberRule) → soundNumber r ≡ true → (name : List ℕ) (separator : ℕ) (t : List ℕ) → Holds (NumberStands r name separator t) (unwritten r separator t)
+left-stands : (r : NumberRule) → soundNumber r ≡ true → (name : List ℕ) (separator : ℕ) (t : List ℕ) → Holds (NumberStands r name separator t) (omittedNumber r separator t)
 left-stands (Needed low high) k name separator t = tt
 left-stands (Omitted low high given) k name separator t =
     let e = eq-eqb given given refl in

@@ -33,7 +33,7 @@ use Rattle.profile.specs.Sound.{soundNumber, soundVersions}
 use Rattle.profile.specs.Writer.{bytesAllowed}
 use Rattle.profile.specs.PieceTexts.{tagged}
 use Rattle.profile.proofs.Codecs.{digits-values, version-forth}
-use Rattle.fast_path.specs.Walk.{taken, numeralIn, writtenNumber, unwritten, numberIn, writtenBytes, bytesIn, allowed, versionIn}
+use Rattle.fast_path.specs.Walk.{taken, numeralIn, writtenNumber, omittedNumber, numberIn, writtenBytes, bytesIn, allowed, versionIn}
 use Rattle.fast_path.proofs.Closed.{Separator, Closed, run-closed}
 use Rattle.fast_path.proofs.ItemTexts.{Named, separatorAfter, items, separator-after, fresh, Behind, closed-items, starts-fresh}
 
@@ -58,7 +58,7 @@ number-there : (r : NumberRule) (n : ℕ) (name : List ℕ) (separator : ℕ) (r
     → numberIn r name separator (((separator ∷ name) ++ digits n) ++ rest) ≡ some (taken n 44 rest)
 unfolding numberIn
 number-there r n name separator rest l e w h =
-    behind-tag (separator ∷ name) (digits n) rest (λ (u : List ℕ). andThen (numeralIn u) (writtenNumber r)) (unwritten r separator (((separator ∷ name) ++ digits n) ++ rest))
+    behind-tag (separator ∷ name) (digits n) rest (λ (u : List ℕ). andThen (numeralIn u) (writtenNumber r)) (omittedNumber r separator (((separator ∷ name) ++ digits n) ++ rest))
     ∙ rw (numeral-reads n rest l h, e, w)
 
 number-reads : (r : NumberRule) (n : ℕ) (name : List ℕ) (separator : ℕ) (rest : List ℕ) → soundNumber r ≡ true → inRange r n ≡ true

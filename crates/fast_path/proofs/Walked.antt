@@ -23,7 +23,7 @@ use Rattle.profile.specs.Writer.{Permitted, formatted}
 use Rattle.profile.specs.PieceTexts.{tagged}
 use Rattle.profile.proofs.Texts.{formatted-is}
 use Rattle.profile.proofs.Allows.{here}
-use Rattle.profile.proofs.Table.{Entry, entry-at}
+use Rattle.profile.proofs.SoundLaws.{Entry, entry-at}
 use Rattle.profile.proofs.Written.{written}
 use Rattle.profile.proofs.Accepted.{accepted}
 use Rattle.fast_path.specs.Walk.{taken, versionIn, numbersIn, pairIn, keysIn, hashesIn, headIn, afterId, walked, WalkAgrees}

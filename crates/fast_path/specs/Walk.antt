@@ -42,13 +42,13 @@ abbrev pub writtenNumber : NumberRule → ℕ × List ℕ → Option (Taken ℕ)
 writtenNumber r x = cond (inRange r (x .0) && not (leftOut r (x .0))) (some (taken (x .0) comma (x .1))) none
 
 -- a number that doesn't stand in the string
-abbrev pub unwritten : NumberRule → ℕ → List ℕ → Option (Taken ℕ)
-unwritten r separator t = cond (misplacedNumber r none) none (some (taken (given r) separator t))
+abbrev pub omittedNumber : NumberRule → ℕ → List ℕ → Option (Taken ℕ)
+omittedNumber r separator t = cond (misplacedNumber r none) none (some (taken (given r) separator t))
 
 -- a number after its separator and its name, or left out
 unfoldable pub numberIn : NumberRule → List ℕ → ℕ → List ℕ → Option (Taken ℕ)
 numberIn r name separator t =
-    cond (startsWith (separator ∷ name) t) (andThen (numeralIn (drop (suc (length name)) t)) (writtenNumber r)) (unwritten r separator t)
+    cond (startsWith (separator ∷ name) t) (andThen (numeralIn (drop (suc (length name)) t)) (writtenNumber r)) (omittedNumber r separator t)
 
 -- ---- one byte string
 

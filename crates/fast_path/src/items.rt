@@ -17,7 +17,7 @@ ghost use mathlib.Core.List.{List};
 ghost use lib.ListN.{length, drop};
 ghost use Rattle.text.specs.Text.{andThen};
 ghost use Rattle.b64.specs.B64.{Sextets};
-ghost use Rattle.fast_path.specs.Walk.{numeralIn, writtenNumber, unwritten as unwrittenNumber, numberIn, writtenBytes, bytesIn};
+ghost use Rattle.fast_path.specs.Walk.{numeralIn, writtenNumber, omittedNumber, numberIn, writtenBytes, bytesIn};
 ghost use Rattle.fast_path.specs.WalkSteps.{NumberIs, most, BytesAre};
 
 // The number, the place after its item, and the separator before the next.
@@ -51,8 +51,8 @@ fn written_number(rule: NumberRule, s: &[u8], at: usize) -> NumberItem
 }
 
 // A number that doesn't stand in the string.
-fn unwritten(rule: NumberRule, at: usize, separator: u8) -> NumberItem
-    ensures { λ r. ⌜ ((s : List ℕ) → at ≤ length s → NumberIs (unwrittenNumber rule separator (drop at s)) s r) ⌝ }
+fn omitted_number(rule: NumberRule, at: usize, separator: u8) -> NumberItem
+    ensures { λ r. ⌜ ((s : List ℕ) → at ≤ length s → NumberIs (omittedNumber rule separator (drop at s)) s r) ⌝ }
 {
     if is_needed(rule) {
         return NumberItem::No;
@@ -67,7 +67,7 @@ pub fn number_item(rule: NumberRule, name: &[u8], s: &[u8], at: usize, separator
     if begins(s, at, separator, name) {
         return written_number(rule, s, at + 1 + name.len());
     }
-    unwritten(rule, at, separator)
+    omitted_number(rule, at, separator)
 }
 
 // A byte string whose separator and name were read: at least one byte, and as many as permitted.

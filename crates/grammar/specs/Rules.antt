@@ -26,7 +26,7 @@ isName s = isText Name longestName s
 abbrev pub isValue : List ℕ → Bool
 isValue s = isText Value longestValue s
 
--- what stands after a version piece's `v=`, read as a number
+-- what stands after a version piece's `v=`, read as a number. Free answer: the first two bytes of any other text are not looked at
 unfoldable pub versionReading : List ℕ → Limited
 versionReading s = limitedReading 0 largestVersion (drop 2 s)
 

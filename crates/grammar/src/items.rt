@@ -54,10 +54,10 @@ pub fn is_params(params: &[u8]) -> bool
     let mut n = 0;
     let mut at = 0;
     while at <= params.len() {
-        let item = item_place(params, at);
         if n == MOST_ITEMS {
             return false;
         }
+        let item = item_place(params, at);
         let name = item.name;
         let value = item.value;
         if !is_item(part(params, name), part(params, value)) {

@@ -17,7 +17,7 @@ use Rattle.profile.specs.Entries.{decoded, writing}
 use Rattle.profile.specs.declared.fields.ByteString.{ByteString}
 use Rattle.profile.specs.declared.fields.ByteString.the-variants.{Keyid, Data, Salt, Output}
 use Rattle.profile.proofs.Allows.{here, allowed}
-use Rattle.profile.proofs.Table.{edition-two-sound}
+use Rattle.profile.proofs.SoundLaws.{edition-two-sound}
 use Rattle.profile.proofs.Texts.{formatted-length}
 use Rattle.profile.proofs.Lengths.{most-room}
 use Rattle.profile.proofs.Accepted.{accepted}

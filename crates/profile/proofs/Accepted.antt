@@ -31,7 +31,7 @@ use Rattle.profile.specs.Writer.{Permitted, itemList, fieldSlots, fieldP
 use Rattle.profile.specs.Sound.{sound}
 use Rattle.profile.proofs.Codecs.{number-back, bytes-back, value-filled, output-filled, version-back}
 use Rattle.profile.proofs.Slots.{list-slots}
-use Rattle.profile.proofs.Table.{entry-at, name-of}
+use Rattle.profile.proofs.SoundLaws.{entry-at, name-of}
 use Rattle.profile.proofs.Written.{Goods, After}
 
 -- ---- what the sorting tells

@@ -24,7 +24,7 @@ use Rattle.profile.specs.declared.fields.ByteString.{ByteString}
 use Rattle.profile.specs.declared.fields.ByteString.the-variants.{Keyid, Data, Salt, Output}
 use Rattle.profile.specs.declared.fields.Reading.{Reading}
 use Rattle.profile.proofs.ReadLaws.{reading-number}
-use Rattle.profile.proofs.Table.{at-id, edition-two-sound}
+use Rattle.profile.proofs.SoundLaws.{at-id, edition-two-sound}
 use Rattle.profile.proofs.Written.{pieces-of, written}
 use Rattle.profile.proofs.Accepted.{accepted}
 use Rattle.profile.proofs.Demand3.{not-refused, permitted, same-string, same-fields, refused-exactly}

@@ -31,7 +31,7 @@ use Rattle.profile.specs.Writer.{bytesAllowed, Allows, formatted}
 use Rattle.profile.specs.PieceTexts.{taggedLength}
 use Rattle.profile.specs.Entries.{reading, refusedReading, decoded}
 use Rattle.profile.specs.declared.fields.ByteString.{ByteString}
-use Rattle.profile.proofs.Table.{at-id}
+use Rattle.profile.proofs.SoundLaws.{at-id}
 use Rattle.profile.proofs.Allows.{here}
 use Rattle.profile.proofs.Texts.{formatted-length}
 

@@ -1,6 +1,6 @@
 pub mod Codecs
 pub mod Slots
-pub mod Table
+pub mod SoundLaws
 pub mod Allows
 pub mod Written
 pub mod Accepted

@@ -15,7 +15,7 @@ use Rattle.profile.specs.Fields.{fieldSet}
 use Rattle.profile.specs.Entries.{writing, shortWriting}
 use Rattle.profile.specs.Sound.{usualSound}
 use Rattle.profile.specs.declared.fields.Fields.{Fields}
-use Rattle.profile.proofs.Table.{usual-at, edition-two-usual}
+use Rattle.profile.proofs.SoundLaws.{usual-at, edition-two-usual}
 use Rattle.profile.proofs.Demand3.{permitted}
 
 module _ (e : List Profile) (ok : usualSound e ≡ true) (k : ℕ) (salt output : List ℕ) where

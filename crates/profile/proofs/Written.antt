@@ -38,7 +38,7 @@ use Rattle.profile.specs.Writer.{Permitted, itemList, fieldSlots, fieldP
 use Rattle.profile.specs.Sound.{sound}
 use Rattle.profile.proofs.Codecs.{digits-values, NumberWritten, number-forth, BytesWritten, bytes-forth, written-value, written-output, VersionWritten, version-forth}
 use Rattle.profile.proofs.Slots.{slots-list}
-use Rattle.profile.proofs.Table.{Entry, entry-at}
+use Rattle.profile.proofs.SoundLaws.{Entry, entry-at}
 
 -- ---- the items keep the grammar's rule
 

@@ -49,6 +49,7 @@ numberReading r t = limitedReading (lowest r) (highest r) t
 abbrev pub isNumber : NumberRule → List ℕ → Bool
 isNumber r t = eqb (limitedNumber (numberReading r t)) 0
 
+-- as written or, where it is left out, what stands for it. Free answer: a number that is no parameter, which row 10 refuses before
 abbrev pub readNumber : NumberRule → Slot → ℕ
 readNumber r none = given r
 readNumber r (some t) = limitedValue (numberReading r t)

@@ -42,6 +42,7 @@ pub record Allows (r : Profile) (f : FieldSet) : Type 0 where
   pub output : bytesAllowed (r .output) (f .output) ≡ true
   pub order : (empty (f .salt) && not (empty (f .output))) ≡ false
 
+-- permitted fields (01)
 pub record Permitted (e : List Profile) (f : FieldSet) : Type 0 where
   pub column : Allows (profileOf e (f .numbers .id)) f
   pub bytes : OfBytes f

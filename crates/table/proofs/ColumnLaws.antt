@@ -1,19 +1,19 @@
 -- The code's table is document 01's: one test over its numbers, and what the test says of each number.
 -- Assumes nothing.
 use Prim.Native.Nat.{ℕ, zero, suc, _+_, _≤_, _<_}
-use mathlib.Core.Bool.{Bool, true, false, cond, _&&_}
-use mathlib.Core.List.{List, _∷_}
+use mathlib.Core.Bool.{Bool, true, false, cond, _&&_, and-false}
+use mathlib.Core.List.{List, [], _∷_}
 use mathlib.Core.Path.{_≡_, refl, sym, _∙_, ap}
 use native.Mathlib.Omega.{arith}
-use borrow.Author.Tests.{lt-ltb, le-ltb}
+use borrow.Author.Tests.{lt-ltb, le-ltb, ltb-true}
 use lib.Dec.{ltb, eqb, eqb·suc-zero}
 use lib.ListN.{length, drop}
 use lib.Seq.{drop-cons}
 use Rattle.text.specs.Text.{same}
 use Rattle.text.proofs.Table.{tabulate, tabulated}
 use Rattle.grammar.specs.Parts.{partAt}
-use Rattle.table.specs.Limits.{Profile, nobody, argon2, pbkdf2, profileOf, next, idOf, editionTwo}
-use Rattle.table.specs.Columns.{nameIn, nameAt}
+use Rattle.table.specs.Limits.{Profile, nobody, argon2, pbkdf2, profileOf, next, idOf, isNamed, editionTwo}
+use Rattle.table.specs.Columns.{nameIn, nameAt, nameIndex}
 
 -- the entry of a number, as the code chooses it
 abbrev entryAt : ℕ → Profile
@@ -23,15 +23,25 @@ table-test : tabulate entryAt 0 6 ≡ nobody ∷ editionTwo
 unfolding editionTwo nameIn partAt
 table-test = refl
 
+-- the empty name
+none-named : (k : ℕ) → k < 1 → [] ≡ nameAt k
+unfolding nameIn partAt editionTwo
+none-named zero h = refl
+none-named (suc k) h = absurd (omega arith)
+
 entry-past : (k : ℕ) → 6 ≤ k → entryAt k ≡ nobody
 entry-past k h = rw (le-ltb k 1 (omega arith), le-ltb k 4 (omega arith), le-ltb k 6 h)
 
-pub entry-rule : (k : ℕ) → entryAt k ≡ profileOf editionTwo k
+entry-rule : (k : ℕ) → entryAt k ≡ profileOf editionTwo k
 entry-rule k = tabulated entryAt nobody 6 (nobody ∷ editionTwo) table-test entry-past k
 
 -- ---- by the tests of the code
 
 module _ (k : ℕ) where
+  -- the index of the name, by the entry
+  pub index-by : (r : Profile) → r ≡ profileOf editionTwo k → cond (r .known) k 0 ≡ nameIndex k
+  index-by r e = ap (λ (r : Profile). cond (r .known) k 0) e
+
   pub entry-none : k < 1 → nobody ≡ profileOf editionTwo k
   entry-none h = sym (rw (lt-ltb k 1 h)) ∙ entry-rule k
 
@@ -46,16 +56,25 @@ module _ (k : ℕ) where
 
 -- ---- the number of an id text, index by index
 
-abbrev byName : Profile → List ℕ → Bool
-byName r s = r .known && same s (r .name)
-
--- each of the five is known, and its name stands at its index
-by-index : (k : ℕ) → 1 ≤ k → k < 6 → (s : List ℕ) → byName (profileOf editionTwo k) s ≡ same s (nameAt k)
-by-index k l h s = ap (λ (r : Profile). byName r s) (sym (entry-rule k)) ∙ rw (le-ltb k 1 l, lt-ltb k 6 h) (go (ltb k 4))
+-- the name stands at its index
+pub name-rule : (k : ℕ) → k < 6 → profileOf editionTwo k .name ≡ nameAt k
+name-rule k h = ap (λ (r : Profile). r .name) (sym (entry-rule k)) ∙ rw (lt-ltb k 6 h) (go (ltb k 1) (ltb k 4) refl)
   where
-    go : (b : Bool) → byName (cond b (argon2 (nameAt k)) (pbkdf2 (nameAt k))) s ≡ same s (nameAt k)
-    go true = refl
-    go false = refl
+    go : (a b : Bool) → ltb k 1 ≡ a → cond a nobody (cond b (argon2 (nameAt k)) (pbkdf2 (nameAt k))) .name ≡ nameAt k
+    go true b e = none-named k (ltb-true k 1 e)
+    go false true e = refl
+    go false false e = refl
+
+module _ (s : List ℕ) (r : Profile) where
+  pub named-other : same s (r .name) ≡ false → false ≡ isNamed s r
+  named-other e = sym (rw (e, and-false))
+
+  pub named-known : same s (r .name) ≡ true → r .known ≡ isNamed s r
+  named-known e = rw e (go (r .known))
+    where
+      go : (b : Bool) → b ≡ (b && true)
+      go true = refl
+      go false = refl
 
 -- a number counted after the first j
 abbrev pub counted : ℕ → ℕ → ℕ
@@ -74,15 +93,13 @@ module _ (s : List ℕ) where
   unfolding editionTwo
   entries = refl
 
-  step : (j : ℕ) → j < 5 → idFrom j s ≡ counted j (cond (same s (nameAt (suc j))) 1 (next (idOf (drop (suc j) editionTwo) s)))
-  step j h =
-      ap (λ (l : List Profile). counted j (idOf l s)) (drop-cons editionTwo j nobody (omega (arith, entries)))
-      ∙ ap (λ (b : Bool). counted j (cond b 1 (next (idOf (drop (suc j) editionTwo) s)))) (by-index (suc j) (omega arith) (omega arith) s)
+  step : (j : ℕ) → j < 5 → idFrom j s ≡ counted j (cond (isNamed s (profileOf editionTwo (suc j))) 1 (next (idOf (drop (suc j) editionTwo) s)))
+  step j h = ap (λ (l : List Profile). counted j (idOf l s)) (drop-cons editionTwo j nobody (omega (arith, entries)))
 
-  pub id-here : (j : ℕ) → j < 5 → same s (nameAt (suc j)) ≡ true → idFrom j s ≡ suc j
+  pub id-here : (j : ℕ) → j < 5 → isNamed s (profileOf editionTwo (suc j)) ≡ true → idFrom j s ≡ suc j
   id-here j h e = step j h ∙ rw e (omega arith)
 
-  pub id-next : (j : ℕ) → j < 5 → same s (nameAt (suc j)) ≡ false → idFrom j s ≡ idFrom (suc j) s
+  pub id-next : (j : ℕ) → j < 5 → isNamed s (profileOf editionTwo (suc j)) ≡ false → idFrom j s ≡ idFrom (suc j) s
   id-next j h e = step j h ∙ rw e (counted-next j (idOf (drop (suc j) editionTwo) s))
 
   pub id-start : idFrom 0 s ≡ idOf editionTwo s

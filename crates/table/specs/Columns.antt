@@ -1,34 +1,28 @@
--- The code's own table (src/limits.rt, src/names.rt): a column as the profile that it stands for. Nothing here is a rule: that the columns are
+-- The code's own table (src/columns.rt, src/names.rt): a column as the profile that it stands for. Nothing here is a rule: that the columns are
 -- those of document 01's table is the contract of `columns::column_of`.
 -- Assumes nothing.
-use Prim.Native.Nat.{ℕ, _+_, _*_}
+use Prim.Native.Nat.{ℕ, _+_, _-_, _*_}
 use mathlib.Core.Bool.{cond}
-use mathlib.Core.List.{List, [], _∷_, _++_}
+use mathlib.Core.List.{List, [], _∷_, _++_, map}
 use lib.Dec.{ltb}
-use lib.ListN.{getD}
-use Rattle.text.specs.Text.{text}
+use lib.ListN.{length, getD, replicate}
+use Rattle.text.specs.Text.{concat}
 use Rattle.grammar.specs.Layout.{span}
 use Rattle.grammar.specs.Parts.{partAt}
-use Rattle.table.specs.Limits.{Profile}
+use Rattle.table.specs.Limits.{Profile, nobody, profileOf, editionTwo}
 use Rattle.table.specs.declared.limits.Versions.{Versions}
 use Rattle.table.specs.declared.limits.Versions.the-variants.{Never, Either}
 use Rattle.table.specs.declared.limits.Column.{Column}
 
 -- ---- names
 
--- a slot of nine bytes: a name's length and its bytes; what is short of nine are zeros
-abbrev seven : List ℕ → List ℕ
-seven name = 7 ∷ (name ++ (0 ∷ []))
+-- a slot of nine bytes: a name's length, its bytes, and zeros after a short one
+abbrev nameSlot : List ℕ → List ℕ
+nameSlot name = length name ∷ (name ++ replicate (8 - length name) 0)
 
-abbrev eight : List ℕ → List ℕ
-eight name = 8 ∷ name
-
--- the bytes of the constant NAMES
+-- the bytes of the constant NAMES: the names in the order of their ids' numbers, an empty one before them
 abbrev pub nameTable : List ℕ
-nameTable =
-    (0 ∷ 0 ∷ 0 ∷ 0 ∷ 0 ∷ 0 ∷ 0 ∷ 0 ∷ 0 ∷ [])
-    ++ (seven (text "argon2d")
-    ++ (seven (text "argon2i") ++ (eight (text "argon2id") ++ (eight (text "pbkdf2s2") ++ eight (text "pbkdf2s3")))))
+nameTable = concat (map (λ (r : Profile). nameSlot (r .name)) (nobody ∷ editionTwo))
 
 -- the name at an index of such a table; empty past the last
 unfoldable pub nameIn : List ℕ → ℕ → List ℕ
@@ -59,3 +53,7 @@ profileIn c =
       output = c .output;
       usual = c .usual;
     }
+
+-- the index of an id's name; 0, where the empty one stands, for a number that is no id's
+abbrev pub nameIndex : ℕ → ℕ
+nameIndex k = cond (profileOf editionTwo k .known) k 0

@@ -56,7 +56,7 @@ misplacedNumber (Omitted low high given) s = false
 misplacedNumber (Fixed given) none = false
 misplacedNumber (Fixed given) (some t) = true
 
--- what stands for one that is left out
+-- what stands for one that is left out. Free answer: 0 for one that is needed
 abbrev pub given : NumberRule → ℕ
 given (Needed low high) = 0
 given (Omitted low high n) = n
@@ -86,10 +86,14 @@ abbrev pub next : ℕ → ℕ
 next zero = zero
 next (suc n) = suc (suc n)
 
+-- the id is known, and has the name
+abbrev pub isNamed : List ℕ → Profile → Bool
+isNamed s r = r .known && same s (r .name)
+
 -- the number of an id text, counted from 1; 0 for an unknown one
 abbrev pub idOf : List Profile → List ℕ → ℕ
 idOf [] s = 0
-idOf (r ∷ rs) s = cond (r .known && same s (r .name)) 1 (next (idOf rs s))
+idOf (r ∷ rs) s = cond (isNamed s r) 1 (next (idOf rs s))
 
 -- the entry of a number that is no id's
 abbrev pub nobody : Profile

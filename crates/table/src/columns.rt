@@ -7,10 +7,8 @@ use crate::limits::Versions;
 use crate::version::Version;
 use text::units::Bytes;
 ghost use mathlib.Core.Path.{_≡_};
-ghost use Rattle.table.specs.Limits.{nobody as nobodys, argon2 as argon2s, pbkdf2 as pbkdf2s, profileOf, editionTwo};
-ghost use Rattle.table.specs.Columns.{nameAt, profileIn};
-
-const LARGEST: u32 = 4294967295;
+ghost use Rattle.table.specs.Limits.{nobody as nobodyProfile, argon2 as argon2Profile, pbkdf2 as pbkdf2Profile, profileOf, editionTwo};
+ghost use Rattle.table.specs.Columns.{nameAt, profileIn, nameIndex};
 
 // The iterations of pbkdf2 where `t` is left out; the short writer's too.
 const OMITTED_T: u32 = 20000;
@@ -25,7 +23,7 @@ fn sized(low: usize, high: usize) -> BytesRule
 }
 
 fn argon2(name: usize) -> Column
-    ensures { λ r. ⌜ profileIn r ≡ argon2s (nameAt name) ⌝ }
+    ensures { λ r. ⌜ (profileIn r ≡ argon2Profile (nameAt name)) × (r .name ≡ name) ⌝ }
 {
     Column {
         known: true,
@@ -34,11 +32,11 @@ fn argon2(name: usize) -> Column
         unwritten: 19,
         m: NumberRule::Needed {
             low: 1,
-            high: LARGEST,
+            high: u32::MAX,
         },
         t: NumberRule::Needed {
             low: 1,
-            high: LARGEST,
+            high: u32::MAX,
         },
         p: NumberRule::Needed { low: 1, high: 255 },
         keyid: sized(0, 8),
@@ -55,7 +53,7 @@ fn argon2(name: usize) -> Column
 }
 
 fn pbkdf2(name: usize) -> Column
-    ensures { λ r. ⌜ profileIn r ≡ pbkdf2s (nameAt name) ⌝ }
+    ensures { λ r. ⌜ (profileIn r ≡ pbkdf2Profile (nameAt name)) × (r .name ≡ name) ⌝ }
 {
     Column {
         known: true,
@@ -65,7 +63,7 @@ fn pbkdf2(name: usize) -> Column
         m: NumberRule::Fixed { given: 0 },
         t: NumberRule::Omitted {
             low: 100,
-            high: LARGEST,
+            high: u32::MAX,
             given: OMITTED_T,
         },
         p: NumberRule::Fixed { given: 0 },
@@ -83,7 +81,7 @@ fn pbkdf2(name: usize) -> Column
 }
 
 fn nobody() -> Column
-    ensures { λ r. ⌜ profileIn r ≡ nobodys ⌝ }
+    ensures { λ r. ⌜ (profileIn r ≡ nobodyProfile) × (r .name ≡ 0) ⌝ }
 {
     let none = NumberRule::Fixed { given: 0 };
     let barred = BytesRule::Barred;
@@ -116,7 +114,7 @@ fn index(id: u8) -> usize
 
 // The column of an id by its number; of another number it is nobody's.
 pub fn column_of(id: u8) -> Column
-    ensures { λ r. ⌜ profileIn r ≡ profileOf editionTwo id ⌝ }
+    ensures { λ r. ⌜ (profileIn r ≡ profileOf editionTwo id) × (r .name ≡ nameIndex id) ⌝ }
 {
     if id < 1 {
         return nobody();

@@ -5,7 +5,7 @@ use text::units::Bytes;
 // The bytes that every permitted string fits.
 pub const ROOM: usize = 265;
 
-// A number parameter: always written; left out where it is `given`; or none of this id's, and `given`.
+// A number. Needed: always written. Omitted: left out where it is `given`. Fixed: no parameter of this id, its number is `given`.
 pub enum NumberRule {
     Needed { low: u32, high: u32 },
     Omitted { low: u32, high: u32, given: u32 },

@@ -91,7 +91,7 @@ find-behind d [] [] e h = refl
 find-behind d [] (c ∷ u) e h = rw (eq-eqb c d h)
 find-behind d (c ∷ t) u e h = let q = neither (eqb c d) (has d t) e in rw (q .0) (ap suc (find-behind d t u (q .1) h))
 
--- starts-behind a text that begins with l
+-- behind a text that begins with l
 pub starts-behind : (l t u rest : List ℕ) → startsWith l t ≡ true → drop (length l) t ≡ u ++ rest → t ≡ (l ++ u) ++ rest
 starts-behind l t u rest e h = starts-is l t e ∙ ap (λ (x : List ℕ). l ++ x) h ∙ sym (append-assoc l u rest)
 

@@ -1,4 +1,5 @@
--- A rule of a table, proved at all of its entries by one test that antt computes, one entry after the other.
+-- A rule of a table, proved at all of its entries by one test that antt computes, one entry after the other; what holds at every place, past the
+-- last too; and a function whose first values are a table.
 -- Assumes nothing.
 use mathlib.Core.Path.{_≡_, refl, sym, _∙_, ap, subst}
 use mathlib.Core.Bool.{Bool, true, false}

@@ -14,7 +14,7 @@ returns-2 : tie.Need-returns-2
 returns-2 c =
     let st = c .before .before .before .before .before in
     let a = st .args in
-    rw (number-absent (a .rule) (a .name .now) (a .separator) (a .s .now) (a .at) (sym (c .before .before .begins .ensures) ∙ c .before .if1 .left)) (c .unwritten .ensures (a .s .now) (st .pre))
+    rw (number-absent (a .rule) (a .name .now) (a .separator) (a .s .now) (a .at) (sym (c .before .before .begins .ensures) ∙ c .before .if1 .left)) (c .omitted-number .ensures (a .s .now) (st .pre))
 
 pub number-item-spec : {M : Type 1} → statement M
 number-item-spec =

@@ -34,7 +34,7 @@ after-id-requires c κs =
     let k = c .before in
     let n = k .before .before .before in
     let st = n .before .before .before .before .before .before .before in
-    let l : roomy (profileIn (k .column-of .result)) ≡ roomy (profileOf editionTwo (k .before .id-number .result)) = ap roomy (k .column-of .ensures) in
+    let l : roomy (profileIn (k .column-of .result)) ≡ roomy (profileOf editionTwo (k .before .id-number .result)) = ap roomy (k .column-of .ensures .0) in
     ((end-inside n, omega (arith, l, roomy-two (k .before .id-number .result), st .pre .0)), st .pre .1)
 
 returns-4 : tie.Need-returns-4
@@ -44,7 +44,7 @@ returns-4 c =
     let i = k .before in
     let n = i .before .before in
     let e = n .before .before .before .before in
-    rw (walked-id _ _ _ (e .if1 .left) (n .before .if3 .left) (n .next-at .ensures), ← i .id-number .ensures, ← k .column-of .ensures) (a .after-id .ensures)
+    rw (walked-id _ _ _ (e .if1 .left) (n .before .if3 .left) (n .next-at .ensures), ← i .id-number .ensures, ← k .column-of .ensures .0) (a .after-id .ensures)
 
 pub walk-string-spec : {M : Type 1} → statement M
 walk-string-spec =

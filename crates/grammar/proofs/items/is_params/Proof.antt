@@ -1,6 +1,6 @@
 -- `grammar::items::is_params` meets its contract. Assumes nothing.
 use Prim.Native.Nat.{_+_, _-_, _≤_}
-use mathlib.Core.Path.{_≡_, _∙_, sym, ap}
+use mathlib.Core.Path.{_≡_, refl, _∙_, sym, ap}
 use native.Mathlib.Omega.{arith}
 use borrow.Author.Tests.{not-true, not-false}
 use denote.Ref.{now}
@@ -9,6 +9,7 @@ use Rattle.grammar.specs.Limits.{mostItems}
 use Rattle.grammar.specs.Items.{itemsFrom}
 use Rattle.grammar.specs.Rules.{isItem, isParams}
 use Rattle.grammar.specs.Parts.{partAt}
+use Rattle.grammar.specs.ItemPlaces.{itemPlace}
 use Rattle.grammar.specs.declared.item_places.ItemPlace.{ItemPlace}
 use Rattle.grammar.proofs.ItemLaws.{items-start, fine, fine-start, fine-end}
 use Rattle.grammar.proofs.ItemPlaces.{items-past, next-after, fine-full, fine-bad, fine-on}
@@ -25,23 +26,23 @@ loop-holds : tie.Need-loop-holds Inv-loop μ-loop
 loop-holds c = let s = now (c .before .args .params) in (omega arith, fine-start s ∙ ap (fine 0) (items-start s))
 
 judged : (c : tie.After-is-item Inv-loop μ-loop)
-    → let k = c .before .before .before .before .before .before in
-    let s = now (k .before .before .before .before .args .params) in
+    → let k = c .before .before .before .before .before in
+    let s = now (k .before .before .before .before .before .args .params) in
     c .is-item .result ≡ isItem (partAt s (k .item-place .result .name), partAt s (k .item-place .result .value))
 judged c = c .is-item .ensures ∙ (λ i. isItem (c .before .before .part .ensures i, c .before .part2 .ensures i))
 
 returns : tie.Need-returns Inv-loop μ-loop
 returns c =
-    let k = c .before in
-    let l = k .before .before .loop in
-    sym (l .inv .1 ∙ fine-full (now (k .before .before .before .before .args .params)) (l .at) (k .before .loop-test .taken) (k .item-place .result) (k .item-place .ensures) (l .n) (c .if1 .taken))
+    let l = c .before .before .loop in
+    let s = now (c .before .before .before .before .args .params) in
+    sym (l .inv .1 ∙ fine-full s (l .at) (c .before .loop-test .taken) (itemPlace s (l .at)) refl (l .n) (c .if1 .taken))
 
 returns-2 : tie.Need-returns-2 Inv-loop μ-loop
 returns-2 c =
-    let k = c .before .before .before .before .before .before .before in
-    let l = k .before .before .loop in
+    let k = c .before .before .before .before .before .before in
+    let l = k .before .before .before .loop in
     sym (l .inv .1
-    ∙ fine-bad (now (k .before .before .before .before .args .params)) (l .at) (k .before .loop-test .taken) (k .item-place .result) (k .item-place .ensures) (l .n)
+    ∙ fine-bad (now (k .before .before .before .before .before .args .params)) (l .at) (k .before .before .loop-test .taken) (k .item-place .result) (k .item-place .ensures) (l .n)
     (sym (judged (c .before)) ∙ not-true (c .before .is-item .result) (c .if2 .taken)))
 
 add-n : tie.Need-add-n Inv-loop μ-loop
@@ -49,18 +50,18 @@ add-n c = omega arith
 
 loop-less : tie.Need-loop-less Inv-loop μ-loop
 loop-less c =
-    let k = c .before .before .before .before .before .before .before in
-    let h = k .before .loop-test .taken in
+    let k = c .before .before .before .before .before .before in
+    let h = k .before .before .loop-test .taken in
     let e = ap (λ (w : ItemPlace). w .next) (k .item-place .ensures) in
-    omega (arith, next-after (now (k .before .before .before .before .args .params)) (k .before .before .loop .at) h)
+    omega (arith, next-after (now (k .before .before .before .before .before .args .params)) (k .before .before .before .loop .at) h)
 
 loop-again : tie.Need-loop-again Inv-loop μ-loop
 loop-again c =
-    let k = c .before .before .before .before .before .before .before in
-    let l = k .before .before .loop in (
+    let k = c .before .before .before .before .before .before in
+    let l = k .before .before .before .loop in (
       omega arith,
       l .inv .1
-          ∙ fine-on (now (k .before .before .before .before .args .params)) (l .at) (k .before .loop-test .taken) (k .item-place .result) (k .item-place .ensures) (l .n)
+          ∙ fine-on (now (k .before .before .before .before .before .args .params)) (l .at) (k .before .before .loop-test .taken) (k .item-place .result) (k .item-place .ensures) (l .n)
           (sym (judged (c .before)) ∙ not-false (c .before .is-item .result) (c .if2 .left)),
     )
 
@@ -76,8 +77,8 @@ is-params-spec =
     Inv-loop
     μ-loop
     loop-holds
-    (λ c κs. tt)
     returns
+    (λ c κs. tt)
     (λ c κs. tt)
     (λ c κs. tt)
     (λ c κs. tt)

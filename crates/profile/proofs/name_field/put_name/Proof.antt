@@ -9,6 +9,7 @@ use lib.ListN.{length, take, drop}
 use Rattle.text.specs.Text.{text}
 use Rattle.text.specs.Place.{Wrote}
 use Rattle.text.proofs.Wrote.{AllFit, First, Next, first-room, first-wrote, next-room, next-wrote, chain-sum}
+use Rattle.table.specs.Limits.{editionTwo}
 use Rattle.table.specs.Columns.{nameAt}
 use Rattle.profile.proofs.name_field.put_name.Statement.{statement}
 use Rattle.profile.proofs.name_field.put_name.Tie as tie
@@ -28,6 +29,7 @@ abbrev at-first : tie.After-put-text2 → tie.After-put-text
 at-first b = b .before .before .before .before .before .before
 
 second : (b : tie.After-put-text2) → Next (first (at-first b)) (b .put-text2 .last .1 .0) (b .put-text2 .result)
+unfolding editionTwo
 second b =
     next-wrote (first (at-first b))
     (subst (λ (t : List ℕ). Wrote t (take (length (at-first b .put-text .last .1 .0) - at-first b .put-text .result) (drop (at-first b .put-text .result) (at-first b .put-text .last .1 .0))) (b .put-text2 .last .1 .0) (b .put-text2 .result)) (b .before .before .name-at .ensures) (b .put-text2 .ensures))
@@ -42,6 +44,7 @@ part-put-text-start : tie.Need-part-put-text-start
 part-put-text-start c = next-room (first (c .before .before .before .before)) .0
 
 put-text-requires-2 : tie.Need-put-text-requires-2
+unfolding editionTwo
 put-text-requires-2 c κs = rw (c .before .name-at .ensures) (next-room (first (c .before .before .before .before .before)) .1)
 
 add-result : tie.Need-add-result

@@ -12,7 +12,7 @@ returns c =
     let r = c .before .before .before .read in
     let f = r .result .fields in
     let v : c .meant-version .result ≡ meantVersion (profileOf editionTwo (f .id) .unwritten) (f .version) =
-    c .meant-version .ensures ∙ ap (λ (r : Profile). meantVersion (r .unwritten) (f .version)) (c .before .column-of .ensures) in
+    c .meant-version .ensures ∙ ap (λ (r : Profile). meantVersion (r .unwritten) (f .version)) (c .before .column-of .ensures .0) in
     _∙_ {b = meaningOf editionTwo (r .result)} (λ i. record { number = r .result .number; version = v i }) (ap (meaningOf editionTwo) (r .ensures))
 
 pub algorithm-version-spec : {M : Type 1} → statement M

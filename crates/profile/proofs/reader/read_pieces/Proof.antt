@@ -59,7 +59,7 @@ said j =
     let v = values j in
     subst
     (λ (r : Profile). Judged (rowsFor r (version j) (slotsIn (partAt s (w .params)) v) (v .strange) (slotIn s (w .salt)) (slotIn s (w .output))) r (slotsIn (partAt s (w .params)) v) (j .judge .result))
-    (j .before .column-of .ensures)
+    (j .before .column-of .ensures .0)
     (subst
     (λ (t : List ℕ). Judged (rowsFor (profileIn (j .before .column-of .result)) (version j) (slotsIn t v) (v .strange) (slotIn s (w .salt)) (slotIn s (w .output))) (profileIn (j .before .column-of .result)) (slotsIn t v) (j .judge .result))
     (at-values j .before .before .part2 .ensures) (j .judge .ensures))

@@ -11,7 +11,7 @@ returns : tie.Need-returns
 unfolding shortFields
 returns c =
     let id = c .before .before .args .id in
-    ap {B = Fields} (λ (r : Profile). record { id = id; version = r .usual .version; m = r .usual .m; t = r .usual .t; p = r .usual .p }) (c .before .column-of .ensures)
+    ap {B = Fields} (λ (r : Profile). record { id = id; version = r .usual .version; m = r .usual .m; t = r .usual .t; p = r .usual .p }) (c .before .column-of .ensures .0)
 
 pub usual-fields-spec : {M : Type 1} → statement M
 usual-fields-spec = tie.close (tie.spec (λ c κs. search needs) returns)

@@ -39,7 +39,7 @@ clear c = sym (c .before .refusal-of .ensures) ∙ c .if1 .left
 -- the writer's number
 refused-is : (c : tie.After-refusal-of) → refusal editionTwo (fields (at-refusal c)) ≡ c .refusal-of .result
 unfolding refusal
-refused-is c = ap (λ (r : Profile). firstOf (columnRows r (fields (at-refusal c)))) (sym (c .before .column-of .ensures)) ∙ sym (c .refusal-of .ensures)
+refused-is c = ap (λ (r : Profile). firstOf (columnRows r (fields (at-refusal c)))) (sym (c .before .column-of .ensures .0)) ∙ sym (c .refusal-of .ensures)
 
 returns : tie.Need-returns
 unfolding writing
@@ -49,7 +49,7 @@ returns c =
     put-refused (now (s .args .buf)) (s .args .at) (formatted editionTwo (fields s)) (refusal editionTwo (fields s)) (r .refusal-of .result) (refused-is r) (omega (arith, c .if1 .taken))
 
 string-len-requires : tie.Need-string-len-requires
-string-len-requires c κs = fits-room (fields (at-clear c)) (entry c) (c .before .before .column-of .ensures) (clear c)
+string-len-requires c κs = fits-room (fields (at-clear c)) (entry c) (c .before .before .column-of .ensures .0) (clear c)
 
 asked : (c : tie.After-has-room)
     → let s = at-clear (c .before .before) in
@@ -57,7 +57,7 @@ asked : (c : tie.After-has-room)
 asked c =
     let l = c .before .before in
     let s = at-clear l in
-    string-asked (fields s) (entry l) (l .before .before .column-of .ensures) (clear l) (now (s .args .buf)) (s .args .at) (c .before .string-len .result) (c .before .string-len .ensures) (c .has-room .result) (c .has-room .ensures)
+    string-asked (fields s) (entry l) (l .before .before .column-of .ensures .0) (clear l) (now (s .args .buf)) (s .args .at) (c .before .string-len .result) (c .before .string-len .ensures) (c .has-room .result) (c .has-room .ensures)
 
 -- what the writer gives where no row applies
 cleared : (c : tie.Else1)
@@ -65,7 +65,7 @@ cleared : (c : tie.Else1)
     put (now (s .args .buf)) (s .args .at) (formatted editionTwo (fields s)) ≡ writing editionTwo (fields s) (now (s .args .buf)) (s .args .at)
 cleared c =
     let s = at-clear c in
-    sym (writing-clear (fields s) (entry c) (c .before .before .column-of .ensures) (clear c) (now (s .args .buf)) (s .args .at))
+    sym (writing-clear (fields s) (entry c) (c .before .before .column-of .ensures .0) (clear c) (now (s .args .buf)) (s .args .at))
 
 returns-2 : tie.Need-returns-2
 returns-2 c = writer-full (asked (c .before)) (not-true _ (c .if2 .taken)) ∙ cleared (c .before .before .before)
@@ -79,7 +79,7 @@ put-string-requires c κs =
     let l = h .before .before in
     let s = at-clear l in
     let b = now (s .args .buf) in
-    subst (λ (t : List ℕ). length t ≤ length (take (length b - s .args .at) (drop (s .args .at) b))) (text-by (fields s) (entry l) (l .before .before .column-of .ensures) (clear l))
+    subst (λ (t : List ℕ). length t ≤ length (take (length b - s .args .at) (drop (s .args .at) b))) (text-by (fields s) (entry l) (l .before .before .column-of .ensures .0) (clear l))
     (writer-room (asked h) (not-false _ (c .before .if2 .left)))
 
 returns-3 : tie.Need-returns-3
@@ -91,7 +91,7 @@ returns-3 c =
     let b = now (s .args .buf) in
     _∙_ {b = put b (s .args .at) (formatted editionTwo (fields s))}
     (writer-over (asked (e .before)) (not-false _ (e .if2 .left)) _
-    (p .put-string .ensures .left ∙ ap (over (take (length b - s .args .at) (drop (s .args .at) b)) 0) (sym (text-by (fields s) (entry l) (l .before .before .column-of .ensures) (clear l)))))
+    (p .put-string .ensures .left ∙ ap (over (take (length b - s .args .at) (drop (s .args .at) b)) 0) (sym (text-by (fields s) (entry l) (l .before .before .column-of .ensures .0) (clear l)))))
     (cleared l)
 
 pub write-spec : {M : Type 1} → statement M

@@ -1,13 +1,10 @@
 -- `table::ids::position` meets its contract. Assumes nothing.
 use Prim.Native.Nat.{ℕ, suc, _+_, _-_, _≤_}
-use mathlib.Core.List.{List}
 use mathlib.Core.Path.{_≡_, sym, _∙_, ap}
 use native.Mathlib.Omega.{arith}
 use borrow.Author.Needs.{needs}
 use denote.Ref.{now}
-use Rattle.text.specs.Text.{same}
-use Rattle.table.specs.Limits.{idOf, editionTwo}
-use Rattle.table.specs.Columns.{nameIn, nameAt}
+use Rattle.table.specs.Limits.{profileOf, idOf, isNamed, editionTwo}
 use Rattle.table.proofs.ColumnLaws.{idFrom, id-start, id-here, id-next, id-none}
 use Rattle.table.proofs.ids.position.Statement.{statement}
 use Rattle.table.proofs.ids.position.Tie as tie
@@ -21,24 +18,17 @@ abbrev μ-loop : tie.MeasureT-loop
 loop-holds : tie.Need-loop-holds Inv-loop μ-loop
 loop-holds c = (omega arith, omega arith, sym (id-start (now (c .before .before .args .name))))
 
--- the name at the index, as the table has it
-told : (c : tie.After-same-text Inv-loop μ-loop) → c .same-text .result ≡ same (now (c .before .before .before .before .before .before .args .name)) (nameAt (c .before .before .before .loop .index))
-told c =
-    let s = c .before .before .before .before .before .before in
-    c .same-text .ensures
-    ∙ ap (same (now (s .args .name))) (c .before .name-at .ensures ∙ ap (λ (t : List ℕ). nameIn t (c .before .before .before .loop .index)) (s .pre))
-
 cast-result : tie.Need-cast-result Inv-loop μ-loop
 cast-result c = omega arith
 
 -- the number, where the name stands at the index
-here : (c : tie.Then1 Inv-loop μ-loop) → let l = c .before .before .before .before in idOf editionTwo (now (l .before .before .before .args .name)) ≡ l .loop .index
+here : (c : tie.Then1 Inv-loop μ-loop) → let l = c .before .before .before in idOf editionTwo (now (l .before .before .before .args .name)) ≡ l .loop .index
 here c =
-    let l = c .before .before .before .before in
+    let l = c .before .before .before in
     let name = now (l .before .before .before .args .name) in
     let j = l .loop .index - 1 in
     let k : suc j ≡ l .loop .index = omega arith in
-    l .loop .inv .2 ∙ id-here name j (omega arith) (ap (λ (n : ℕ). same name (nameAt n)) k ∙ sym (told (c .before)) ∙ c .if1 .taken) ∙ k
+    l .loop .inv .2 ∙ id-here name j (omega arith) (ap (λ (n : ℕ). isNamed name (profileOf editionTwo n)) k ∙ sym (c .before .is-named .ensures) ∙ c .if1 .taken) ∙ k
 
 returns : tie.Need-returns Inv-loop μ-loop
 returns c = sym (here c)
@@ -51,14 +41,14 @@ loop-less c = omega arith
 
 loop-again : tie.Need-loop-again Inv-loop μ-loop
 loop-again c =
-    let l = c .before .before .before .before in
+    let l = c .before .before .before in
     let name = now (l .before .before .before .args .name) in
     let j = l .loop .index - 1 in
     let k : suc j ≡ l .loop .index = omega arith in
     let n : suc j ≡ l .loop .index + 1 - 1 = omega arith in (
       omega arith,
       omega arith,
-      l .loop .inv .2 ∙ id-next name j (omega arith) (ap (λ (n : ℕ). same name (nameAt n)) k ∙ sym (told (c .before)) ∙ c .if1 .left) ∙ ap (λ (i : ℕ). idFrom i name) n,
+      l .loop .inv .2 ∙ id-next name j (omega arith) (ap (λ (n : ℕ). isNamed name (profileOf editionTwo n)) k ∙ sym (c .before .is-named .ensures) ∙ c .if1 .left) ∙ ap (λ (i : ℕ). idFrom i name) n,
     )
 
 returns-2 : tie.Need-returns-2 Inv-loop μ-loop
@@ -75,7 +65,6 @@ position-spec =
     Inv-loop
     μ-loop
     loop-holds
-    (λ c κs. search needs)
     (λ c κs. search needs)
     cast-result
     returns

@@ -1,11 +1,11 @@
--- The ids of an edition: the number of an id text and the entry at a number; and what the tests of specs/Sound.antt say of an entry.
+-- What the tests of specs/Sound.antt say of an entry; and the ids of an edition: the number of an id text and the entry at a number.
 -- Assumes nothing.
 use Prim.Native.Nat.{ℕ, zero, suc, _*_, _≤_, _<_}
 use mathlib.Core.Bool.{Bool, true, false, cond, _&&_, false≢true}
 use mathlib.Core.List.{List, [], _∷_}
 use mathlib.Core.Path.{_≡_, refl, sym, subst}
 use native.Mathlib.Omega.{arith}
-use lib.Dec.{leb, eqb, eqb·suc-zero}
+use lib.Dec.{leb}
 use lib.ListN.{getD, length}
 use borrow.Author.Tests.{eqb-true, leb-true}
 use Rattle.text.specs.Text.{same, every}
@@ -94,11 +94,6 @@ unfolding usualSound
 usual-at e s k h = usual-entry k (profileOf e k) h (at-id usualAt e s k h)
 
 -- ---- ids and their numbers
-
--- no id has the number 0
-pub known-id : (e : List Profile) (k : ℕ) → profileOf e k .known ≡ true → eqb k 0 ≡ false
-known-id e zero h = absurd (false≢true h)
-known-id e (suc k) h = eqb·suc-zero k
 
 -- an id text whose entry is known is the name of that entry
 pub name-of : (e : List Profile) (s : List ℕ) → profileOf e (idOf e s) .known ≡ true → profileOf e (idOf e s) .name ≡ s
