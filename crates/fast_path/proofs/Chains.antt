@@ -1,6 +1,6 @@
 -- The steps of the walk, one after the other: what each leaf finds makes up what the whole finds.
 -- Assumes nothing.
-use Prim.Native.Nat.{ℕ, suc, _+_, _-_, _*_, _/_, _≤_, _<_}
+use Prim.Native.Nat.{ℕ, suc, _+_, _-_}
 use mathlib.Core.Path.{_≡_, refl, sym, ap}
 use mathlib.Core.Bool.{true, false, not}
 use mathlib.Core.List.{List, [], _∷_}
@@ -8,7 +8,7 @@ use mathlib.Core.Option.{Option, none, some}
 use native.Mathlib.Omega.{arith}
 use lib.ListN.{length, take, drop, getD}
 use lib.Seq.{drop-drop}
-use borrow.Author.Tests.{le-leb, lt-leb, ne-eqb}
+use borrow.Author.Tests.{ne-eqb}
 use Rattle.text.specs.Text.{text, find, nextAt, startsWith, andThen}
 use Rattle.text.proofs.Tests.{is-true, is-false}
 use Rattle.text.proofs.Prefixes.{rest-at}
@@ -16,7 +16,7 @@ use Rattle.decimal.specs.declared.reader.Limited.{Limited}
 use Rattle.decimal.specs.declared.reader.Limited.the-variants.{Malformed, Outside, Value}
 use Rattle.grammar.specs.Bytes.{dollar}
 use Rattle.grammar.specs.Rules.{versionReading, isVersion}
-use Rattle.table.specs.Limits.{Profile, inRange, idOf, profileOf, leftOut}
+use Rattle.table.specs.Limits.{Profile, fewKilobytes, inRange, idOf, profileOf, leftOut}
 use Rattle.table.specs.declared.limits.NumberRule.{NumberRule}
 use Rattle.table.specs.declared.limits.BytesRule.{BytesRule}
 use Rattle.table.specs.declared.version.Version.{Version}
@@ -91,13 +91,6 @@ module _ (vs s : List ℕ) (at : ℕ) where
 
 -- ---- m, t and p
 
--- eight for each lane, by a quotient that can't wrap
-lanes : (m p : ℕ) → p ≤ m / 8 → 8 * p ≤ m
-lanes m p h = omega arith
-
-few : (m p : ℕ) → m / 8 < p → m < 8 * p
-few m p h = omega arith
-
 module _ (r : Profile) (k : ℕ) (v : Version) (s : List ℕ) where
   pub no-m : numberIn (r .m) (text "m=") 36 s ≡ none → numbersIn r k v s ≡ none
   unfolding numbersIn
@@ -114,13 +107,13 @@ module _ (r : Profile) (k : ℕ) (v : Version) (s : List ℕ) where
       no-p w = rw (e, q, w)
 
       module _ (p c : ℕ) (x : List ℕ) (w : numberIn (r .p) (text "p=") b u ≡ some (taken p c x)) where
-        pub few-kilobytes : m / 8 < p → numbersIn r k v s ≡ none
+        pub few-kilobytes : fewKilobytes m p ≡ true → numbersIn r k v s ≡ none
         unfolding numbersIn
-        few-kilobytes h = rw (e, q, w, lt-leb (8 * p) m (few m p h))
+        few-kilobytes h = rw (e, q, w, h)
 
-        pub all-numbers : p ≤ m / 8 → numbersIn r k v s ≡ some (taken (record { id = k; version = v; m = m; t = n; p = p }) c x)
+        pub all-numbers : fewKilobytes m p ≡ false → numbersIn r k v s ≡ some (taken (record { id = k; version = v; m = m; t = n; p = p }) c x)
         unfolding numbersIn
-        all-numbers h = rw (e, q, w, le-leb (8 * p) m (lanes m p h))
+        all-numbers h = rw (e, q, w, h)
 
 -- ---- version and numbers
 

@@ -1,18 +1,16 @@
 -- What the walk finds in a string is permitted, and is written to exactly that string, in every edition that passes the test `sound`.
 -- Assumes nothing.
-use Prim.Native.Nat.{ℕ, _*_, _≤_}
+use Prim.Native.Nat.{ℕ}
 use mathlib.Core.Bool.{true, false, not, _&&_}
 use mathlib.Core.List.{List, [], _∷_, _++_}
 use mathlib.Core.Option.{some}
 use mathlib.Core.Path.{_≡_, refl, sym, _∙_, ap, subst}
-use lib.Dec.{leb}
 use lib.ListN.{take, drop, take-append-drop}
-use borrow.Author.Tests.{leb-true}
 use Rattle.text.specs.Text.{text, all, empty, find, isByte, startsWith}
 use Rattle.text.proofs.Starts.{starts-is}
 use Rattle.text.proofs.Options.{Holds, holds-then, holds-map, holds-if}
 use Rattle.text.proofs.Lists.{empty-nil}
-use Rattle.table.specs.Limits.{Profile, inRange, versionAllowed, idOf, profileOf}
+use Rattle.table.specs.Limits.{Profile, fewKilobytes, inRange, versionAllowed, idOf, profileOf}
 use Rattle.table.specs.declared.version.Version.{Version}
 use Rattle.profile.specs.Fields.{FieldSet, fieldSet, writeBytes, writeVersion}
 use Rattle.profile.specs.Sound.{soundNumber, sound}
@@ -34,7 +32,7 @@ record NumbersStand (r : Profile) (k : ℕ) (v : Version) (s : List ℕ) (x : Ta
   m : inRange (r .m) (x .found .m) ≡ true
   t : inRange (r .t) (x .found .t) ≡ true
   p : inRange (r .p) (x .found .p) ≡ true
-  lanes : 8 * x .found .p ≤ x .found .m
+  lanes : fewKilobytes (x .found .m) (x .found .p) ≡ false
   stands : Stands 36 (costItems r (x .found)) s (x .separator) (x .rest)
 
 numbers-stand : (r : Profile) (k : ℕ) (v : Version) (s : List ℕ) → soundNumber (r .m) ≡ true → soundNumber (r .t) ≡ true → soundNumber (r .p) ≡ true
@@ -45,17 +43,16 @@ numbers-stand r k v s sm st sp =
     number-then Q (r .m) sm (text "m=") 36 s _ (λ m hm.
     number-then Q (r .t) st (text "t=") (m .separator) (m .rest) _ (λ t ht.
     number-then Q (r .p) sp (text "p=") (t .separator) (t .rest) _ (λ p hp.
-    holds-if Q (leb (8 * p .found) (m .found)) _ _
+    holds-if Q (fewKilobytes (m .found) (p .found)) _ _ (λ e. tt)
     (λ e. record {
       id = refl;
       version = refl;
       m = hm .0;
       t = ht .0;
       p = hp .0;
-      lanes = leb-true (8 * p .found) (m .found) e;
+      lanes = e;
       stands = stands-append (hm .1) (stands-append (ht .1) (hp .1));
-    })
-    (λ e. tt))))
+    }))))
 
 record KeysStand (r : Profile) (separator : ℕ) (s : List ℕ) (x : Taken Pair) : Type 0 where
   keyid : bytesAllowed (r .keyid) (x .found .first) ≡ true

@@ -1,6 +1,6 @@
 -- The walk finds the fields of each accepted string, and nothing in any other, in every edition that passes the test `sound`.
 -- Assumes nothing.
-use Prim.Native.Nat.{ℕ, _*_}
+use Prim.Native.Nat.{ℕ}
 use mathlib.Core.Bool.{Bool, true, false, not, cond, _&&_, true≢false, false≢true}
 use mathlib.Core.List.{List, [], _∷_, _++_}
 use mathlib.Core.Option.{Option, none, some}
@@ -8,7 +8,7 @@ use mathlib.Core.Path.{_≡_, refl, sym, _∙_, ap}
 use lib.Dec.{eqb}
 use lib.ListN.{length}
 use lib.Seq.{take-at, drop-at}
-use borrow.Author.Tests.{le-leb, eqb-true, eq-eqb}
+use borrow.Author.Tests.{eqb-true, eq-eqb}
 use Rattle.text.specs.Text.{text, all, has, empty, isByte, startsWith}
 use Rattle.text.proofs.Lists.{not-in, has-append}
 use Rattle.text.proofs.Starts.{Begins, find-behind}
@@ -105,7 +105,7 @@ module _ (e : List Profile) (f : FieldSet) (E : Entry e (f .numbers .id) (here e
         number-item (text "m=") 36 ((text "t=", t) ∷ (text "p=", p) ∷ keys) hashes dollar behind-items refl (r .m) (n .m) (E .m) (P .column .m),
         number-item (text "t=") (separatorAfter 36 m) ((text "p=", p) ∷ keys) hashes d₂ behind-items refl (r .t) (n .t) (E .t) (P .column .t),
         number-item (text "p=") (separatorAfter (separatorAfter 36 m) t) keys hashes d₃ behind-items refl (r .p) (n .p) (E .p) (P .column .p),
-        le-leb (8 * n .p) (n .m) (P .column .lanes),
+        P .column .lanes,
       )
 
   keys-read : keysIn (here e f) next (items next keys hashes) ≡ some (taken (record { first = f .keyid; second = f .ad }) (separators next keys) hashes)

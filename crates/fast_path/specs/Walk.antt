@@ -1,7 +1,7 @@
 -- The walk: an accepted string read from its first byte to its last, each text taken as it stands next. What it finds is what the rules say
 -- (`WalkAgrees`), so no public contract cites the walk itself.
 -- Assumes nothing.
-use Prim.Native.Nat.{ℕ, suc, _*_}
+use Prim.Native.Nat.{ℕ, suc}
 use mathlib.Core.Path.{_≡_}
 use mathlib.Core.Bool.{Bool, true, false, not, cond, _&&_}
 use mathlib.Core.List.{List, [], _∷_}
@@ -13,7 +13,7 @@ use Rattle.b64.specs.B64.{inAlphabet, canonical, decode}
 use Rattle.decimal.specs.Decimal.{isDigit, isUnsigned, value}
 use Rattle.grammar.specs.Bytes.{dollar, comma}
 use Rattle.grammar.specs.Rules.{isVersion}
-use Rattle.table.specs.Limits.{Profile, inRange, isSize, versionAllowed, idOf, profileOf, largest32, misplacedNumber, given, leftOut}
+use Rattle.table.specs.Limits.{Profile, inRange, fewKilobytes, isSize, versionAllowed, idOf, profileOf, largest32, misplacedNumber, given, leftOut}
 use Rattle.table.specs.declared.limits.NumberRule.{NumberRule}
 use Rattle.table.specs.declared.limits.BytesRule.{BytesRule}
 use Rattle.table.specs.declared.version.Version.{Version}
@@ -84,8 +84,8 @@ numbersIn r k v s =
     andThen (numberIn (r .m) (text "m=") dollar s) (λ (m : Taken ℕ).
     andThen (numberIn (r .t) (text "t=") (m .separator) (m .rest)) (λ (t : Taken ℕ).
     andThen (numberIn (r .p) (text "p=") (t .separator) (t .rest)) (λ (p : Taken ℕ).
-    cond (leb (8 * p .found) (m .found))
-    (some (taken (record { id = k; version = v; m = m .found; t = t .found; p = p .found }) (p .separator) (p .rest))) none)))
+    cond (fewKilobytes (m .found) (p .found)) none
+    (some (taken (record { id = k; version = v; m = m .found; t = t .found; p = p .found }) (p .separator) (p .rest))))))
 
 -- ---- the four byte strings, up to the end
 

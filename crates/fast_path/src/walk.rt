@@ -10,6 +10,7 @@ use decimal::reader::Limited;
 use grammar::version::version_number;
 use profile::fields::Fields;
 use profile::fields::Reading;
+use table::bounds::few_kilobytes;
 use table::bounds::version_allowed;
 use table::columns::column_of;
 use table::ids::id_number;
@@ -76,7 +77,7 @@ fn version_item(versions: Versions, s: &[u8], at: usize) -> VersionItem
     allowed(versions, Version::Absent, at)
 }
 
-// m, t and p, and m at least 8p without a product that can wrap.
+// m, t and p, and m at least 8p.
 fn numbers(column: Column, id: u8, version: Version, s: &[u8], at: usize) -> Head
     requires { ⌜ at ≤ length (now s) ⌝ }
     ensures { λ r. ⌜ HeadIs (numbersIn (profileIn column) id version (drop at (now (s .entry)))) (now (s .entry)) r ⌝ }
@@ -103,7 +104,7 @@ fn numbers(column: Column, id: u8, version: Version, s: &[u8], at: usize) -> Hea
             ) {
                 NumberItem::No => Head::No,
                 NumberItem::Is(p, next, separator) => {
-                    if m / 8 < p {
+                    if few_kilobytes(m, p) {
                         return Head::No;
                     }
                     Head::Is(

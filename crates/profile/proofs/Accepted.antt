@@ -9,7 +9,6 @@ use mathlib.Core.Path.{_≡_, refl, sym, _∙_, ap}
 use native.Mathlib.Omega.{arith}
 use lib.Dec.{leb}
 use lib.ListN.{length}
-use borrow.Author.Tests.{ltb-false}
 use Rattle.text.specs.Text.{within, all, empty, split, headIf, tailIf, broken}
 use Rattle.text.proofs.Tests.{both, and-true, neither, not-of-true, is-true}
 use Rattle.text.proofs.Rows.{Clear, clear}
@@ -132,7 +131,7 @@ module _ (e : List Profile) (ok : sound e ≡ true) where
             m = m .0;
             t = t .0;
             p = l .0;
-            lanes = ltb-false _ _ lanes;
+            lanes = lanes;
             keyid = keyid .0;
             ad = ad .0;
             salt = salt .0;

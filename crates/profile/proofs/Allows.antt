@@ -1,9 +1,7 @@
 -- The writer's rows don't apply exactly where the column of the id allows the fields.
 -- Assumes nothing.
-use Prim.Native.Nat.{_*_}
 use mathlib.Core.List.{List}
 use mathlib.Core.Path.{_≡_, refl}
-use borrow.Author.Tests.{ltb-false, le-ltb}
 use Rattle.text.proofs.Tests.{not-of-true, is-true}
 use Rattle.text.proofs.Rows.{clear, zero-of}
 use Rattle.table.specs.Limits.{Profile, inRange, versionAllowed, profileOf}
@@ -26,7 +24,7 @@ allowed e f z =
       m = is-true (inRange (r .m) (n .m)) m;
       t = is-true (inRange (r .t) (n .t)) t;
       p = is-true (inRange (r .p) (n .p)) p;
-      lanes = ltb-false (n .m) (8 * n .p) lanes;
+      lanes = lanes;
       keyid = is-true (bytesAllowed (r .keyid) (f .keyid)) keyid;
       ad = is-true (bytesAllowed (r .ad) (f .ad)) ad;
       salt = is-true (bytesAllowed (r .salt) (f .salt)) salt;
@@ -49,7 +47,7 @@ allowed-zero e f h =
             (
               not-of-true (h .p),
               (
-                le-ltb (n .m) (8 * n .p) (h .lanes),
+                h .lanes,
                 (not-of-true (h .keyid), (not-of-true (h .ad), (not-of-true (h .salt), (not-of-true (h .output), (h .order, tt))))),
               ),
             ),

@@ -7,7 +7,7 @@ use mathlib.Core.Path.{_≡_, refl, sym, _∙_, ap, subst}
 use native.Mathlib.Omega.{arith}
 use lib.Dec.{leb}
 use lib.ListN.{length, replicate, length-append}
-use borrow.Author.Tests.{leb-true, le-leb, lt-leb}
+use borrow.Author.Tests.{leb-true, le-leb, lt-leb, ltb-false}
 use Rattle.text.specs.Place.{Outcome, outcome, over}
 use Rattle.text.specs.Text.{every}
 use Rattle.text.proofs.Tests.{from-within, implied}
@@ -186,5 +186,5 @@ lanes =
           let a : answer editionTwo s ≡ 0 = sym (reading-number editionTwo s) ∙ z in
           let h = accepted editionTwo edition-two-sound s a .0 in
           let q = reading-fields editionTwo s a in
-          rw q (one-lane (fieldsOf editionTwo s) h (rw q at k), h .column .lanes);
+          rw q (one-lane (fieldsOf editionTwo s) h (rw q at k), ltb-false _ _ (h .column .lanes));
     }

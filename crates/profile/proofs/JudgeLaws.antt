@@ -1,12 +1,9 @@
 -- Rows 8 to 15 over a profile, as the code has them: what the tests decide, one after the other.
 -- Assumes nothing.
-use Prim.Native.Nat.{ℕ, _*_, _/_, _<_, _≤_}
+use Prim.Native.Nat.{ℕ}
 use mathlib.Core.Bool.{Bool, true, false, _||_}
-use mathlib.Core.Path.{_≡_, refl, sym, _∙_, ap}
+use mathlib.Core.Path.{_≡_, sym, _∙_, ap}
 use mathlib.Core.List.{List, _∷_, _++_}
-use native.Mathlib.Omega.{arith}
-use borrow.Author.Tests.{ltb-true, ltb-false, lt-ltb, le-ltb}
-use lib.Dec.{ltb}
 use Rattle.text.specs.Rows.{Row, row, firstOf}
 use Rattle.text.proofs.Rows.{rows-stop}
 use Rattle.grammar.specs.Pieces.{Slot}
@@ -25,16 +22,6 @@ module _ (strange missing : Bool) (rs : List Row) where
 
   pub ten-clear : strange ≡ false → missing ≡ false → firstOf (row 10 (strange || missing) ∷ rs) ≡ firstOf rs
   ten-clear e h = rw (e, h)
-
--- ---- row 11
-
--- m / 8 is below p where m is below 8p
-pub lanes : (m p : ℕ) → ltb (m / 8) p ≡ ltb m (8 * p)
-lanes m p = go (ltb (m / 8) p) refl
-  where
-    go : (b : Bool) → ltb (m / 8) p ≡ b → b ≡ ltb m (8 * p)
-    go true h = let l : m / 8 < p = ltb-true (m / 8) p h in sym (lt-ltb m (8 * p) (omega arith))
-    go false h = let l : p ≤ m / 8 = ltb-false (m / 8) p h in sym (le-ltb m (8 * p) (omega arith))
 
 -- ---- the judgement
 

@@ -5,7 +5,6 @@ use Prim.Native.Nat.{ℕ}
 use mathlib.Core.Bool.{Bool, true, false}
 use mathlib.Core.List.{List, []}
 use mathlib.Core.Path.{_≡_, refl, sym, ap, _∙_}
-use borrow.Author.Tests.{le-ltb}
 use Rattle.text.specs.Text.{all, isByte}
 use Rattle.text.specs.Place.{putAfter}
 use Rattle.table.specs.Limits.{Profile, profileOf, editionTwo}
@@ -24,7 +23,7 @@ module _ (e : List Profile) (ok : usualSound e ≡ true) (k : ℕ) (salt output 
   short-number = go (profileOf e k .known) refl
     where
       go : (b : Bool) → profileOf e k .known ≡ b → shortRefusal e k salt output ≡ refusal e (shortFields e k salt output)
-      go true q = let u = usual-at e ok k q in rw (u .version, u .m, u .t, u .p, le-ltb _ _ (u .lanes), q)
+      go true q = let u = usual-at e ok k q in rw (u .version, u .m, u .t, u .p, u .lanes, q)
       go false q = rw q
 
   short-permitted : shortRefusal e k salt output ≡ 0 → all isByte salt ≡ true → all isByte output ≡ true → Permitted e (shortFields e k salt output)

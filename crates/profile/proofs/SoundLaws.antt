@@ -1,20 +1,19 @@
 -- What the tests of specs/Sound.antt say of an entry; and the ids of an edition: the number of an id text and the entry at a number.
 -- Assumes nothing.
-use Prim.Native.Nat.{ℕ, zero, suc, _*_, _≤_, _<_}
-use mathlib.Core.Bool.{Bool, true, false, cond, _&&_, false≢true}
+use Prim.Native.Nat.{ℕ, zero, suc, _<_}
+use mathlib.Core.Bool.{Bool, true, false, not, cond, _&&_, false≢true}
 use mathlib.Core.List.{List, [], _∷_}
 use mathlib.Core.Path.{_≡_, refl, sym, subst}
 use native.Mathlib.Omega.{arith}
-use lib.Dec.{leb}
 use lib.ListN.{getD, length}
-use borrow.Author.Tests.{eqb-true, leb-true}
+use borrow.Author.Tests.{eqb-true}
 use Rattle.text.specs.Text.{same, every}
-use Rattle.text.proofs.Tests.{both, implied}
+use Rattle.text.proofs.Tests.{both, implied, is-false}
 use Rattle.text.proofs.Lists.{same-eq}
 use Rattle.text.proofs.Table.{every-at}
 use Rattle.grammar.specs.Bytes.{isNameByte, isText}
 use Rattle.grammar.specs.Rules.{isName}
-use Rattle.table.specs.Limits.{Profile, inRange, versionAllowed, next, idOf, nobody, profileOf, editionTwo}
+use Rattle.table.specs.Limits.{Profile, inRange, versionAllowed, next, idOf, nobody, profileOf, editionTwo, fewKilobytes}
 use Rattle.profile.specs.Sound.{soundNumber, soundBytes, soundOutput, soundVersions, soundAt, sound, usualAt, usualSound}
 
 -- ---- a test on each entry
@@ -78,7 +77,7 @@ pub record UsualEntry (r : Profile) : Type 0 where
   pub m : inRange (r .m) (r .usual .m) ≡ true
   pub t : inRange (r .t) (r .usual .t) ≡ true
   pub p : inRange (r .p) (r .usual .p) ≡ true
-  pub lanes : 8 * r .usual .p ≤ r .usual .m
+  pub lanes : fewKilobytes (r .usual .m) (r .usual .p) ≡ false
 
 usual-entry : (k : ℕ) (r : Profile) → r .known ≡ true → usualAt k r ≡ true → UsualEntry r
 usual-entry k r known h₀ =
@@ -86,8 +85,8 @@ usual-entry k r known h₀ =
     let h₁ = both (versionAllowed (r .versions) (u .version)) _ (implied (r .known) _ h₀ known) in
     let h₂ = both (inRange (r .m) (u .m)) _ (h₁ .1) in
     let h₃ = both (inRange (r .t) (u .t)) _ (h₂ .1) in
-    let h₄ = both (inRange (r .p) (u .p)) (leb (8 * u .p) (u .m)) (h₃ .1) in
-    record { version = h₁ .0; m = h₂ .0; t = h₃ .0; p = h₄ .0; lanes = leb-true (8 * u .p) (u .m) (h₄ .1) }
+    let h₄ = both (inRange (r .p) (u .p)) (not (fewKilobytes (u .m) (u .p))) (h₃ .1) in
+    record { version = h₁ .0; m = h₂ .0; t = h₃ .0; p = h₄ .0; lanes = is-false (fewKilobytes (u .m) (u .p)) (h₄ .1) }
 
 pub usual-at : (e : List Profile) → usualSound e ≡ true → (k : ℕ) → profileOf e k .known ≡ true → UsualEntry (profileOf e k)
 unfolding usualSound

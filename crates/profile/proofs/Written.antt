@@ -1,6 +1,6 @@
 -- Permitted fields are written to a string that is accepted and carries them, in every edition that passes the test `sound`.
 -- Assumes nothing.
-use Prim.Native.Nat.{ℕ, _*_, _≤_}
+use Prim.Native.Nat.{ℕ, _≤_}
 use mathlib.Core.Bool.{Bool, true, false, not, _&&_, _||_, and-false, true≢false, false≢true}
 use mathlib.Core.List.{List, [], _∷_, _++_, map, append-assoc}
 use mathlib.Core.Option.{none, some}
@@ -8,7 +8,7 @@ use mathlib.Core.Path.{_≡_, refl, sym, _∙_, ap, subst}
 use native.Mathlib.Omega.{arith}
 use lib.Dec.{leb, eqb}
 use lib.ListN.{length}
-use borrow.Author.Tests.{le-leb, le-ltb}
+use borrow.Author.Tests.{le-leb}
 use Rattle.text.specs.Text.{text, all, has, same, empty, listOf, broken, Frees, Fails, Fits}
 use Rattle.text.proofs.Tests.{both, and-true, neither, or-false, not-of-true, is-true, is-false}
 use Rattle.text.proofs.Rows.{Clear, zero-of, clear-append}
@@ -28,7 +28,7 @@ use Rattle.grammar.proofs.PieceLaws.{pieces-string}
 use Rattle.grammar.proofs.Reading.{whole-first}
 use Rattle.grammar.proofs.Longest.{at-most}
 use Rattle.grammar.proofs.ValueBytes.{canonical-values}
-use Rattle.table.specs.Limits.{Profile, versionAllowed, profileOf}
+use Rattle.table.specs.Limits.{Profile, versionAllowed, profileOf, fewKilobytes}
 use Rattle.table.specs.declared.limits.BytesRule.{BytesRule}
 use Rattle.table.specs.declared.version.Version.{Version}
 use Rattle.table.specs.declared.version.Version.the-variants.{Absent, Number}
@@ -182,7 +182,7 @@ module _ (e : List Profile) (ok : sound e ≡ true) where
     m : NumberWritten (r .m) (f .numbers .m) (writeNumber (r .m) (f .numbers .m))
     t : NumberWritten (r .t) (f .numbers .t) (writeNumber (r .t) (f .numbers .t))
     p : NumberWritten (r .p) (f .numbers .p) (writeNumber (r .p) (f .numbers .p))
-    lanes : 8 * f .numbers .p ≤ f .numbers .m
+    lanes : fewKilobytes (f .numbers .m) (f .numbers .p) ≡ false
     keyid : BytesWritten longestValue (r .keyid) (f .keyid) (writeBytes (f .keyid))
     ad : BytesWritten longestValue (r .ad) (f .ad) (writeBytes (f .ad))
     salt : BytesWritten longestValue (r .salt) (f .salt) (writeBytes (f .salt))
@@ -278,7 +278,7 @@ module _ (e : List Profile) (ok : sound e ≡ true) where
                 (
                   h .p .number,
                   (
-                    rw (h .m .reads, h .p .reads) (le-ltb (n .m) (8 * n .p) (h .lanes)),
+                    rw (h .m .reads, h .p .reads) (h .lanes),
                     (h .keyid .bytes, (h .ad .bytes, (h .m .short, (h .t .short, (h .p .short, (h .salt .bytes, (h .output .sized, tt))))))),
                   ),
                 ),

@@ -1,17 +1,16 @@
 -- The reader's rows 8 to 15, its number, and the fields that a string carries.
 -- Assumes nothing.
-use Prim.Native.Nat.{ℕ, _*_}
+use Prim.Native.Nat.{ℕ}
 use mathlib.Core.Bool.{Bool, not, _||_}
 use mathlib.Core.List.{List, [], _∷_, _++_}
 use mathlib.Core.Option.{Option, none, some}
-use lib.Dec.{ltb}
 use lib.ListN.{getD}
 use Rattle.text.specs.Text.{text, same, empty, headIf, tailIf, broken}
 use Rattle.text.specs.Rows.{Row, row, firstOf}
 use Rattle.grammar.specs.Pieces.{Slot, Pieces, pieces}
 use Rattle.grammar.specs.Items.{Item, itemsOf}
 use Rattle.grammar.specs.Rules.{grammarRows}
-use Rattle.table.specs.Limits.{Profile, versionAllowed, idOf, profileOf, misplacedNumber}
+use Rattle.table.specs.Limits.{Profile, fewKilobytes, versionAllowed, idOf, profileOf, misplacedNumber}
 use Rattle.table.specs.declared.limits.NumberRule.{NumberRule}
 use Rattle.table.specs.declared.version.Version.{Version}
 use Rattle.profile.specs.Fields.{FieldSet, isNumber, readNumber, writtenOut, misplacedBytes, isSized, isBytes, readBytes, readVersion}
@@ -62,7 +61,7 @@ numberRows r vs =
     numberRow (r .m) (slotAt vs 0)
     ++ (numberRow (r .t) (slotAt vs 1)
     ++ (numberRow (r .p) (slotAt vs 2)
-    ++ (row 11 (ltb (readNumber (r .m) (slotAt vs 0)) (8 * readNumber (r .p) (slotAt vs 2))) ∷ [])))
+    ++ (row 11 (fewKilobytes (readNumber (r .m) (slotAt vs 0)) (readNumber (r .p) (slotAt vs 2))) ∷ [])))
 
 -- keyid and data, then a number written out
 abbrev pub spellingRows : Profile → List Slot → List Row

@@ -1,6 +1,6 @@
 -- The computed tests that a table of limits has to pass for the claims to hold of it.
 -- Assumes nothing.
-use Prim.Native.Nat.{ℕ, _*_}
+use Prim.Native.Nat.{ℕ}
 use mathlib.Core.Bool.{Bool, true, not, _&&_, _||_}
 use mathlib.Core.List.{List}
 use lib.Dec.{leb, eqb}
@@ -8,7 +8,7 @@ use Rattle.text.specs.Text.{within, all, every}
 use Rattle.b64.specs.Lengths.{charsOf}
 use Rattle.grammar.specs.Limits.{longestValue, longestOutput, largestVersion}
 use Rattle.grammar.specs.Rules.{isName}
-use Rattle.table.specs.Limits.{Profile, inRange, versionAllowed, idOf, largest32}
+use Rattle.table.specs.Limits.{Profile, inRange, fewKilobytes, versionAllowed, idOf, largest32}
 use Rattle.table.specs.declared.limits.NumberRule.{NumberRule}
 use Rattle.table.specs.declared.limits.NumberRule.the-variants.{Needed, Omitted, Fixed}
 use Rattle.table.specs.declared.limits.BytesRule.{BytesRule}
@@ -53,7 +53,7 @@ abbrev pub usualAt : ℕ → Profile → Bool
 usualAt k r =
     let u = r .usual in
     not (r .known) || (versionAllowed (r .versions) (u .version)
-    && (inRange (r .m) (u .m) && (inRange (r .t) (u .t) && (inRange (r .p) (u .p) && leb (8 * u .p) (u .m)))))
+    && (inRange (r .m) (u .m) && (inRange (r .t) (u .t) && (inRange (r .p) (u .p) && not (fewKilobytes (u .m) (u .p))))))
 
 unfoldable pub usualSound : List Profile → Bool
 usualSound e = every usualAt 1 e

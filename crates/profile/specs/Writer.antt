@@ -1,17 +1,16 @@
 -- Permitted fields, the writer's rows, and the one string that fields are written to.
 -- Assumes nothing.
-use Prim.Native.Nat.{ℕ, _*_, _≤_}
+use Prim.Native.Nat.{ℕ}
 use mathlib.Core.Path.{_≡_}
 use mathlib.Core.Bool.{Bool, true, false, not, _&&_, _||_}
 use mathlib.Core.List.{List, [], _∷_, _++_}
 use mathlib.Core.Option.{none, some}
-use lib.Dec.{ltb}
 use lib.ListN.{length}
 use Rattle.text.specs.Text.{all, empty, isByte}
 use Rattle.text.specs.Rows.{Row, row, firstOf}
 use Rattle.grammar.specs.Pieces.{Slot, Pieces, string}
 use Rattle.grammar.specs.Items.{Item, paramsText}
-use Rattle.table.specs.Limits.{Profile, inRange, isSize, versionAllowed, profileOf}
+use Rattle.table.specs.Limits.{Profile, inRange, fewKilobytes, isSize, versionAllowed, profileOf}
 use Rattle.table.specs.declared.limits.BytesRule.{BytesRule}
 use Rattle.profile.specs.Fields.{FieldSet, fieldSet, writeNumber, writeBytes, writeVersion}
 use Rattle.profile.specs.Reader.{names}
@@ -35,7 +34,7 @@ pub record Allows (r : Profile) (f : FieldSet) : Type 0 where
   pub m : inRange (r .m) (f .numbers .m) ≡ true
   pub t : inRange (r .t) (f .numbers .t) ≡ true
   pub p : inRange (r .p) (f .numbers .p) ≡ true
-  pub lanes : 8 * f .numbers .p ≤ f .numbers .m
+  pub lanes : fewKilobytes (f .numbers .m) (f .numbers .p) ≡ false
   pub keyid : bytesAllowed (r .keyid) (f .keyid) ≡ true
   pub ad : bytesAllowed (r .ad) (f .ad) ≡ true
   pub salt : bytesAllowed (r .salt) (f .salt) ≡ true
@@ -55,7 +54,7 @@ rangeRows r n =
     row 11 (not (inRange (r .m) (n .m)))
     ∷ row 11 (not (inRange (r .t) (n .t)))
     ∷ row 11 (not (inRange (r .p) (n .p)))
-    ∷ row 11 (ltb (n .m) (8 * n .p))
+    ∷ row 11 (fewKilobytes (n .m) (n .p))
     ∷ []
 
 abbrev pub saltRows : Profile → List ℕ → List ℕ → List Row

@@ -15,6 +15,7 @@ use crate::numbers::WRONG_OUTPUT;
 use crate::numbers::WRONG_SALT;
 use crate::values::Values;
 use grammar::places::Span;
+use table::bounds::few_kilobytes;
 use table::bounds::version_allowed;
 use table::limits::Column;
 use table::version::Version;
@@ -74,7 +75,7 @@ fn refused(number: u8) -> Judgement
     }
 }
 
-// m, t and p: row 11. m < 8p is tested without a product that can wrap.
+// m, t and p, then m < 8p: row 11.
 fn read_numbers(column: Column, params: &[u8], values: Values) -> Judgement
     ensures { λ r. ⌜ Judged (numberRows (profileIn column) (slotsIn (now (params .entry)) values)) (profileIn column) (slotsIn (now (params .entry)) values) r ⌝ }
 {
@@ -96,7 +97,7 @@ fn read_numbers(column: Column, params: &[u8], values: Values) -> Judgement
     if p.number != 0 {
         return refused(p.number);
     }
-    if m.value / 8 < p.value {
+    if few_kilobytes(m.value, p.value) {
         return refused(WRONG_NUMBER);
     }
     Judgement {

@@ -8,6 +8,7 @@ use crate::numbers::WRONG_BYTES;
 use crate::numbers::WRONG_NUMBER;
 use crate::numbers::WRONG_OUTPUT;
 use crate::numbers::WRONG_SALT;
+use table::bounds::few_kilobytes;
 use table::bounds::in_range;
 use table::bounds::version_allowed;
 use table::limits::Column;
@@ -17,7 +18,7 @@ ghost use Rattle.table.specs.Columns.{profileIn};
 ghost use Rattle.profile.specs.Fields.{fieldSet};
 ghost use Rattle.profile.specs.Writer.{rangeRows, bytesRows, columnRows};
 
-// Row 11: each number in its range, then m at least 8p, tested without a product that can wrap.
+// Row 11: each number in its range, then m < 8p.
 fn bad_numbers(column: Column, n: Fields) -> u8
     ensures { λ r. ⌜ r ≡ firstOf (rangeRows (profileIn column) n) ⌝ }
 {
@@ -33,7 +34,7 @@ fn bad_numbers(column: Column, n: Fields) -> u8
     if !in_range(p, n.p) {
         return WRONG_NUMBER;
     }
-    if n.m / 8 < n.p {
+    if few_kilobytes(n.m, n.p) {
         return WRONG_NUMBER;
     }
     0

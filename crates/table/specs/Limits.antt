@@ -1,10 +1,10 @@
 -- What a profile allows, as a table: one entry for each id, in the order of the ids' numbers. An edition of the rules is such a table.
 -- Assumes nothing.
-use Prim.Native.Nat.{ℕ, zero, suc}
+use Prim.Native.Nat.{ℕ, zero, suc, _*_}
 use mathlib.Core.Bool.{Bool, true, false, cond, _&&_}
 use mathlib.Core.List.{List, [], _∷_}
 use mathlib.Core.Option.{none, some}
-use lib.Dec.{eqb}
+use lib.Dec.{ltb, eqb}
 use lib.ListN.{getD}
 use Rattle.text.specs.Text.{text, within, same, has}
 use Rattle.grammar.specs.Pieces.{Slot}
@@ -67,6 +67,10 @@ abbrev pub leftOut : NumberRule → ℕ → Bool
 leftOut (Needed low high) n = false
 leftOut (Omitted low high given) n = eqb n given
 leftOut (Fixed given) n = true
+
+-- m < 8p: fewer than eight kilobytes for each lane
+abbrev pub fewKilobytes : ℕ → ℕ → Bool
+fewKilobytes m p = ltb m (8 * p)
 
 -- ---- of a byte string's size, and of a version
 

@@ -8,13 +8,20 @@ use crate::version::Version;
 use text::units::Bytes;
 ghost use mathlib.Core.Path.{_≡_};
 ghost use Rattle.text.specs.Text.{has};
-ghost use Rattle.table.specs.Limits.{inRange, isSize, versionAllowed};
+ghost use Rattle.table.specs.Limits.{inRange, fewKilobytes, isSize, versionAllowed};
 ghost use Rattle.table.specs.Columns.{listed};
 
 pub fn in_range(rule: NumberRule, n: u32) -> bool
     ensures { λ r. ⌜ r ≡ inRange rule n ⌝ }
 {
     lowest_of(rule) <= n && n <= highest_of(rule)
+}
+
+// m < 8p, tested without a product that can wrap.
+pub fn few_kilobytes(m: u32, p: u32) -> bool
+    ensures { λ r. ⌜ r ≡ fewKilobytes m p ⌝ }
+{
+    m / 8 < p
 }
 
 pub fn is_size(rule: BytesRule, size: Bytes) -> bool

@@ -1,4 +1,5 @@
 -- `fast_path::walk::numbers` meets its contract. Assumes nothing.
+use mathlib.Core.Path.{sym, _∙_}
 use borrow.Author.Needs.{needs}
 use Rattle.fast_path.proofs.Chains.{no-m, no-t, no-p, few-kilobytes, all-numbers}
 use Rattle.fast_path.proofs.walk.numbers.Statement.{statement}
@@ -19,13 +20,14 @@ number-item-requires-3 c κs =
 
 returns : tie.Need-returns
 returns c =
-    let p = c .before .before in
+    let k = c .before in
+    let p = k .before .before in
     let t = p .before .before .before .before .before in
     let m = t .before .before .before .before .before in
     let h = rw (m .m .given .1) at (m .before .before .number-item .ensures) in
     let i = rw (t .t .given .1) at (t .before .before .number-item2 .ensures) in
     let j = rw (p .p .given .1) at (p .before .before .number-item3 .ensures) in
-    few-kilobytes _ _ _ _ _ _ _ (h .0) _ _ _ (i .0) _ _ _ (j .0) (c .if1 .taken)
+    few-kilobytes _ _ _ _ _ _ _ (h .0) _ _ _ (i .0) _ _ _ (j .0) (sym (k .few-kilobytes .ensures) ∙ c .if1 .taken)
 
 returns-2 : tie.Need-returns-2
 returns-2 c = no-m _ _ _ _ (rw (c .enum-told .given .1) at (c .before .before .number-item .ensures))
@@ -46,13 +48,14 @@ returns-4 c =
 
 returns-5 : tie.Need-returns-5
 returns-5 c =
-    let p = c .before .before in
+    let k = c .before in
+    let p = k .before .before in
     let t = p .before .before .before .before .before in
     let m = t .before .before .before .before .before in
     let h = rw (m .m .given .1) at (m .before .before .number-item .ensures) in
     let i = rw (t .t .given .1) at (t .before .before .number-item2 .ensures) in
     let j = rw (p .p .given .1) at (p .before .before .number-item3 .ensures) in
-    (all-numbers _ _ _ _ _ _ _ (h .0) _ _ _ (i .0) _ _ _ (j .0) (c .if1 .left), j .1)
+    (all-numbers _ _ _ _ _ _ _ (h .0) _ _ _ (i .0) _ _ _ (j .0) (sym (k .few-kilobytes .ensures) ∙ c .if1 .left), j .1)
 
 pub numbers-spec : {M : Type 1} → statement M
 numbers-spec =
@@ -70,6 +73,7 @@ numbers-spec =
     number-item-requires-3
     (λ c. search needs)
     (λ c. search needs)
+    (λ c κs. search needs)
     returns
     returns-2
     returns-3

@@ -1,22 +1,20 @@
 -- `profile::judge::read_numbers` meets its contract, row by row. Assumes nothing.
-use Prim.Native.Nat.{ℕ, _*_, _/_}
+use Prim.Native.Nat.{ℕ}
 use mathlib.Core.List.{List, [], _∷_, _++_}
 use mathlib.Core.Path.{_≡_, refl, _∙_}
 use native.Mathlib.Omega.{arith}
 use borrow.Author.Needs.{needs}
-use borrow.Author.Tests.{lt-ltb, le-ltb}
 use denote.Ref.{now}
-use lib.Dec.{ltb}
 use Rattle.text.specs.Rows.{Row, row, firstOf}
 use Rattle.text.proofs.Rows.{rows-stop, rows-next}
 use Rattle.grammar.specs.Pieces.{Slot}
-use Rattle.table.specs.Limits.{Profile}
+use Rattle.table.specs.Limits.{Profile, fewKilobytes}
 use Rattle.table.specs.Columns.{profileIn}
 use Rattle.profile.specs.Fields.{readNumber}
 use Rattle.profile.specs.Reader.{slotAt, numberRow, numberRows}
 use Rattle.profile.specs.ReaderSteps.{slotsIn, Judged}
 use Rattle.profile.specs.declared.judge.Judgement.{Judgement}
-use Rattle.profile.proofs.JudgeLaws.{lanes, judged-refused, judged-accepted}
+use Rattle.profile.proofs.JudgeLaws.{judged-refused, judged-accepted}
 use Rattle.profile.proofs.judge.read_numbers.Statement.{statement}
 use Rattle.profile.proofs.judge.read_numbers.Tie as tie
 
@@ -40,7 +38,7 @@ abbrev p-rows : tie.Start → List Row
 p-rows a = numberRow (entry a .p) (slotAt (values a) 2)
 
 abbrev last : tie.Start → List Row
-last a = row 11 (ltb (readNumber (entry a .m) (slotAt (values a) 0)) (8 * readNumber (entry a .p) (slotAt (values a) 2))) ∷ []
+last a = row 11 (fewKilobytes (readNumber (entry a .m) (slotAt (values a) 0)) (readNumber (entry a .p) (slotAt (values a) 2))) ∷ []
 
 -- where the function began, from each number
 abbrev at-m : tie.After-read-number → tie.Start
@@ -74,15 +72,14 @@ past-p c =
     let a = at-m (to-m (to-t p)) in
     past-t (p .before .before) ∙ rows-next (p-rows a) (last a) (p .read-number3 .result .number) refl (p .read-number3 .ensures .0) (c .if3 .left)
 
--- whether m is below 8p, by the values read
-below : (c : tie.Else3)
-    → let p = c .before .before in
-    let m = to-m (to-t p) in
-    firstOf (rows (at-m m)) ≡ firstOf (row 11 (ltb (m .read-number .result .value / 8) (p .read-number3 .result .value)) ∷ [])
+-- whether m is below 8p, as the test came out
+below : (c : tie.After-few-kilobytes)
+    → let p = c .before .before .before in
+    firstOf (rows (at-m (to-m (to-t p)))) ≡ firstOf (row 11 (c .few-kilobytes .result) ∷ [])
 below c =
-    let p = c .before .before in
+    let p = c .before .before .before in
     let m = to-m (to-t p) in
-    past-p c ∙ rw (← m .read-number .ensures .1, ← p .read-number3 .ensures .1, lanes)
+    past-p (c .before) ∙ rw (← m .read-number .ensures .1, ← p .read-number3 .ensures .1, ← c .few-kilobytes .ensures)
 
 returns : tie.Need-returns
 returns c =
@@ -110,18 +107,18 @@ returns-3 c =
 
 returns-4 : tie.Need-returns-4
 returns-4 c =
-    let e = c .before .before .before .before in
-    let a = at-m (to-m (to-t (e .before .before))) in
-    refuse a (c .refused4 .result) 11 (c .refused4 .ensures) (below e ∙ rw (lt-ltb _ _ (c .before .if4 .taken))) (λ z. absurd (omega arith))
+    let k = c .before .before in
+    let a = at-m (to-m (to-t (k .before .before .before))) in
+    refuse a (c .refused4 .result) 11 (c .refused4 .ensures) (below k ∙ rw (c .before .if4 .taken)) (λ z. absurd (omega arith))
 
 returns-5 : tie.Need-returns-5
 returns-5 c =
-    let e = c .before .before .before in
-    let p = e .before .before in
+    let k = c .before in
+    let p = k .before .before .before in
     let t = to-t p in
     let m = to-m t in
     let a = at-m m in
-    judged-accepted (rows a) (entry a) (values a) _ refl (below e ∙ rw (le-ltb _ _ (c .if4 .left)))
+    judged-accepted (rows a) (entry a) (values a) _ refl (below k ∙ rw (c .if4 .left))
     (record { m-is = m .read-number .ensures .1; t-is = t .read-number2 .ensures .1; p-is = p .read-number3 .ensures .1 })
 
 pub read-numbers-spec : {M : Type 1} → statement M
@@ -137,6 +134,7 @@ read-numbers-spec =
     (λ c κs. search needs)
     (λ c κs. search needs)
     returns-3
+    (λ c κs. search needs)
     (λ c κs. search needs)
     returns-4
     returns-5)

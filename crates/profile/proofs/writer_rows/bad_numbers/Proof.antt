@@ -1,9 +1,7 @@
 -- `profile::writer_rows::bad_numbers` meets its contract, row by row. Assumes nothing.
-use Prim.Native.Nat.{ℕ, _*_}
+use Prim.Native.Nat.{ℕ}
 use mathlib.Core.Path.{_≡_, sym, _∙_}
-use native.Mathlib.Omega.{arith}
 use borrow.Author.Needs.{needs}
-use borrow.Author.Tests.{lt-ltb, le-ltb}
 use lib.ListN.{drop}
 use Rattle.text.specs.Rows.{firstOf}
 use Rattle.table.specs.Columns.{profileIn}
@@ -34,16 +32,10 @@ returns-3 : tie.Need-returns-3
 returns-3 c = sym (past-2 (c .before .before) ∙ rw (← c .before .in-range3 .ensures, c .if3 .taken))
 
 returns-4 : tie.Need-returns-4
-returns-4 c =
-    let e = c .before .before .before in
-    let n = e .before .before .before .before .before .before .args .n in
-    sym (past-3 e ∙ rw (lt-ltb (n .m) (8 * n .p) (omega (arith, c .if4 .taken))))
+returns-4 c = sym (past-3 (c .before .before) ∙ rw (← c .before .few-kilobytes .ensures, c .if4 .taken))
 
 returns-5 : tie.Need-returns-5
-returns-5 c =
-    let e = c .before .before .before in
-    let n = e .before .before .before .before .before .before .args .n in
-    sym (past-3 e ∙ rw (le-ltb (n .m) (8 * n .p) (omega (arith, c .if4 .left))))
+returns-5 c = sym (past-3 (c .before .before) ∙ rw (← c .before .few-kilobytes .ensures, c .if4 .left))
 
 pub bad-numbers-spec : {M : Type 1} → statement M
 bad-numbers-spec =
@@ -55,5 +47,6 @@ bad-numbers-spec =
     returns-2
     (λ c κs. search needs)
     returns-3
+    (λ c κs. search needs)
     returns-4
     returns-5)
