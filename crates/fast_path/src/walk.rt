@@ -240,8 +240,8 @@ fn after_id(table: &[u8; 256], column: Column, id: u8, s: &[u8], at: usize, out:
     }
 }
 
-// The fields of a good string, with their byte strings, one after the other, from the start of `out`. Of a
-// string that is longer than any permitted one nothing is read.
+// The fields of a good string, with their byte strings, one after the other, from the start of `out`. Of a string that is longer than any
+// permitted one nothing is read.
 pub fn walk_string(table: &[u8; 256], s: &[u8], out: &mut [u8]) -> Walk
     requires { ⌜ bufferLength ≤ length (now out) ⌝ }
     requires { ⌜ Sextets (now table) ⌝ }

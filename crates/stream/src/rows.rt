@@ -6,6 +6,7 @@ use accounts::listing::next;
 use libc::STDOUT_FILENO;
 ghost use Prim.Native.Nat.{_≤_};
 ghost use mathlib.Core.Path.{_≡_};
+ghost use mathlib.Core.Bool.{false};
 ghost use lib.ListN.{length};
 
 // The bytes kept of the unfinished line, its number, the bytes of output that wait, and whether every write so far succeeded.
@@ -112,7 +113,9 @@ pub fn take_part(array: &mut [u8; MOST_KEPT], out: &mut [u8], part: &[u8], begun
 }
 
 // What waits, without the unfinished line; whether every write succeeded.
-pub fn flush_rows(out: &[u8], state: State) -> bool {
+pub fn flush_rows(out: &[u8], state: State) -> bool
+    ensures { λ r. ⌜ (state .open ≡ false → r ≡ false) ⌝ }
+{
     if !state.open {
         return false;
     }

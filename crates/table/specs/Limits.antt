@@ -189,6 +189,6 @@ editionTwo =
     ∷ pbkdf2 (text "pbkdf2s3")
     ∷ []
 
--- the bytes that every permitted string of edition two fits (`Lengths` in specs/Claims.antt)
+-- the bytes that every permitted string of edition two fits (`Lengths`, a claim of the profile's)
 abbrev pub room : ℕ
 room = 265
