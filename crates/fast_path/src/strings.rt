@@ -54,7 +54,7 @@ pub fn two_items(
     }
 }
 
-// Two byte strings among the parameters. Mostly there are none, and then no separator stands there: one test instead of two names.
+// Two byte strings among the parameters. Where there is none, no separator stands there: one test instead of two names.
 pub fn two_keys(
     table: &[u8; 256],
     a: BytesRule,
