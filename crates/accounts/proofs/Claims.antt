@@ -10,7 +10,7 @@ use Rattle.accounts.specs.Listing.{header, rowsFrom, listing}
 use Rattle.accounts.specs.Feeding.{heldOf, leftOf}
 use Rattle.accounts.specs.Claims.{Listings, Rows}
 use Rattle.accounts.proofs.RowLaws.{row-length, kind-length}
-use Rattle.accounts.proofs.RunLaws.{from-plain, held-free, held-none, left-zero, run-left, runs}
+use Rattle.accounts.proofs.CallLaws.{from-plain, held-free, held-none, left-zero, run-left, runs}
 
 pub listings : Listings
 unfolding listing lines

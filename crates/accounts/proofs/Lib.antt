@@ -1,5 +1,5 @@
 pub mod LineLaws
 pub mod RowLaws
 pub mod FeedLaws
-pub mod RunLaws
+pub mod CallLaws
 pub mod Claims

@@ -19,10 +19,10 @@ unfolding sextet letter lowBitsZero canonical decode encode
 rfc-vectors = (refl, refl, refl)
 
 -- a single character left over, unused bits that are not zero, padding, whitespace, a character of another alphabet
-abbrev pub strangers : List String
-strangers = "A" ∷ "Zh" ∷ "Zm9" ∷ "Zg==" ∷ "Hj5+dsK0Z" ∷ "Hj5+dsK0ZR" ∷ "Zm9v Yg" ∷ "Zm9vYmF-" ∷ []
+abbrev pub unmatchedItems : List String
+unmatchedItems = "A" ∷ "Zh" ∷ "Zm9" ∷ "Zg==" ∷ "Hj5+dsK0Z" ∷ "Hj5+dsK0ZR" ∷ "Zm9v Yg" ∷ "Zm9vYmF-" ∷ []
 
-pub not-canonical : map (λ s. canonical (text s)) strangers ≡ map (λ s. false) strangers
+pub not-canonical : map (λ s. canonical (text s)) unmatchedItems ≡ map (λ s. false) unmatchedItems
 unfolding sextet lowBitsZero canonical
 not-canonical = refl
 

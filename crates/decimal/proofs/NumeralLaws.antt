@@ -12,7 +12,7 @@ use borrow.Author.Tests.{eqb-true, ne-eqb}
 use Rattle.text.specs.Text.{all}
 use Rattle.text.proofs.Tests.{both, either, from-within, to-within}
 use Rattle.decimal.specs.Decimal.{isDigit, isUnsigned, value, digits, isDecimal, decimalValue, decimalText}
-use Rattle.decimal.specs.Numerals.{Numeral, malformed, outside, number, inRange, numeral, least, greatest, signed, decimalAnswer, decimalReading, limited, limitedReading, limitedNumber, limitedValue}
+use Rattle.decimal.specs.Numerals.{Numeral, malformed, outside, number, between, numeral, least, greatest, signed, decimalAnswer, decimalReading, limited, limitedReading, limitedNumber, limitedValue}
 use Rattle.decimal.specs.declared.reader.Limited.{Limited}
 use Rattle.decimal.specs.declared.reader.Limited.the-variants.{Malformed, Outside, Value}
 use Rattle.decimal.proofs.DecimalLaws.{digit-bounds, unsigned-cases, value-digits, digits-unsigned, digits-value}
@@ -58,18 +58,18 @@ text-value (c ∷ s) p =
 
 -- ---- readings
 
-pub numeral-text : (low high z : ℤ) → inRange low high z ≡ true → numeral low high (decimalText z) ≡ number z
+pub numeral-text : (low high z : ℤ) → between low high z ≡ true → numeral low high (decimalText z) ≡ number z
 unfolding numeral
 numeral-text low high z h = rw (text-decimal z, value-text z, h)
 
-pub text-numeral : (low high : ℤ) (s : List ℕ) (z : ℤ) → numeral low high s ≡ number z → (s ≡ decimalText z) × (inRange low high z ≡ true)
+pub text-numeral : (low high : ℤ) (s : List ℕ) (z : ℤ) → numeral low high s ≡ number z → (s ≡ decimalText z) × (between low high z ≡ true)
 unfolding numeral
-text-numeral low high s z e = go (isDecimal s) (inRange low high (decimalValue s)) refl refl e
+text-numeral low high s z e = go (isDecimal s) (between low high (decimalValue s)) refl refl e
   where
-    go : (d r : Bool) → isDecimal s ≡ d → inRange low high (decimalValue s) ≡ r
+    go : (d r : Bool) → isDecimal s ≡ d → between low high (decimalValue s) ≡ r
         → cond d (cond r (number (decimalValue s)) outside) malformed ≡ number z
-        → (s ≡ decimalText z) × (inRange low high z ≡ true)
-    go true true p q f = let v : decimalValue s ≡ z = cc in (sym (text-value s p) ∙ ap decimalText v, ap (inRange low high) (sym v) ∙ q)
+        → (s ≡ decimalText z) × (between low high z ≡ true)
+    go true true p q f = let v : decimalValue s ≡ z = cc in (sym (text-value s p) ∙ ap decimalText v, ap (between low high) (sym v) ∙ q)
     go true false p q f = let n : _≡_ {A = ℕ} 0 1 = cc in absurd (omega arith)
     go false r p q f = let n : _≡_ {A = ℕ} 0 1 = cc in absurd (omega arith)
 
@@ -93,7 +93,7 @@ digits-limited low high s n e = go (numeral (pos low) (pos high) s) refl e
     go (number (negsuc m)) p f = absurd (false≢true (text-numeral (pos low) (pos high) s (negsuc m) p .1))
 
 -- the public reader
-pub decimal-back : (z : ℤ) → inRange least greatest z ≡ true → decimalReading (decimalText z) ≡ record { number = 0; value = z }
+pub decimal-back : (z : ℤ) → between least greatest z ≡ true → decimalReading (decimalText z) ≡ record { number = 0; value = z }
 decimal-back z h = ap (λ r. decimalAnswer (signed r)) (numeral-text least greatest z h)
 
 pub back-decimal : (s : List ℕ) → decimalReading s .number ≡ 0 → decimalText (decimalReading s .value) ≡ s

@@ -19,7 +19,7 @@ use borrow.Author.Tests.{ltb-true, le-ltb, leb-true, le-leb, lt-leb, eq-eqb, ne-
 use Rattle.text.specs.Place.{over}
 use Rattle.text.proofs.Tests.{either}
 use Rattle.decimal.specs.Decimal.{isUnsigned, value, digits, isDecimal, decimalValue, decimalText}
-use Rattle.decimal.specs.Numerals.{Numeral, malformed, outside, number, inRange, numeral, least, signed}
+use Rattle.decimal.specs.Numerals.{Numeral, malformed, outside, number, between, numeral, least, signed}
 use Rattle.decimal.specs.DecimalSteps.{upTo, unsignedReading, plain, minus, complementOf}
 use Rattle.decimal.specs.declared.reader.Limited.{Limited}
 use Rattle.decimal.specs.declared.reader.Limited.the-variants.{Malformed, Outside, Value}
@@ -115,7 +115,7 @@ fromMinus Outside = outside
 fromMinus (Value n) = cond (eqb n 0) malformed (number (negℤ (pos n)))
 
 within-plain : (low : ℤ) (high : ℕ) (t : Bool) (v : ℕ)
-    → fromPlain low (cond t (upTo high v) Malformed) ≡ cond t (cond (inRange low (pos high) (pos v)) (number (pos v)) outside) malformed
+    → fromPlain low (cond t (upTo high v) Malformed) ≡ cond t (cond (between low (pos high) (pos v)) (number (pos v)) outside) malformed
 unfolding upTo
 within-plain low high false v = refl
 within-plain low high true v =
@@ -125,7 +125,7 @@ within-plain low high true v =
 module _ (low : ℤ) (most : ℕ) (down : (n : ℕ) → leZ low (negsuc n) ≡ leb (suc n) most) (high : ℕ) where
   within-minus : (t : Bool) (v : ℕ)
       → fromMinus (cond t (upTo most v) Malformed)
-      ≡ cond (t && not (eqb v 0)) (cond (inRange low (pos high) (negℤ (pos v))) (number (negℤ (pos v))) outside) malformed
+      ≡ cond (t && not (eqb v 0)) (cond (between low (pos high) (negℤ (pos v))) (number (negℤ (pos v))) outside) malformed
   unfolding upTo
   within-minus false v = refl
   within-minus true zero = rw (le-leb 0 most (omega arith))

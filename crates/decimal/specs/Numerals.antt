@@ -19,13 +19,13 @@ pub data Numeral : Type 0 where
   outside : Numeral
   number : ℤ → Numeral
 
-abbrev pub inRange : ℤ → ℤ → ℤ → Bool
-inRange low high z = leZ low z && leZ z high
+abbrev pub between : ℤ → ℤ → ℤ → Bool
+between low high z = leZ low z && leZ z high
 
 -- a text read as a decimal from low to high
 unfoldable pub numeral : ℤ → ℤ → List ℕ → Numeral
 numeral low high s =
-    cond (isDecimal s) (cond (inRange low high (decimalValue s)) (number (decimalValue s)) outside) malformed
+    cond (isDecimal s) (cond (between low high (decimalValue s)) (number (decimalValue s)) outside) malformed
 
 -- ---- the public reader
 

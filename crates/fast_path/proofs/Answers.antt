@@ -96,8 +96,8 @@ counted-bytes f out₀ out e =
     let l : total (contentsOf f) ≡ length (joinedBytes f) =
     omega (
       arith,
-      length-append (f .keyid) (f .ad ++ (f .salt ++ f .output)),
-      length-append (f .ad) (f .salt ++ f .output),
+      length-append (f .keyid) (f .«data» ++ (f .salt ++ f .output)),
+      length-append (f .«data») (f .salt ++ f .output),
       length-append (f .salt) (f .output),
     ) in
     (l, rw (l, e, over-start out₀ (joinedBytes f)) (take-append-seam (joinedBytes f) (drop (length (joinedBytes f)) out₀)))
@@ -120,7 +120,7 @@ module _ (s out₀ out : List ℕ) (c : Contents) (x : StoredAll (walked edition
       λ i. record {
         reading = r i;
         keyid = (ap (λ (y : Contents). y .keyid) a ∙ ap (λ (y : FieldSet). record { 0 = length (y .keyid) }) f) i;
-        ad = (ap (λ (y : Contents). y .ad) a ∙ ap (λ (y : FieldSet). record { 0 = length (y .ad) }) f) i;
+        «data» = (ap (λ (y : Contents). y .«data») a ∙ ap (λ (y : FieldSet). record { 0 = length (y .«data») }) f) i;
         salt = (ap (λ (y : Contents). y .salt) a ∙ ap (λ (y : FieldSet). record { 0 = length (y .salt) }) f) i;
         output = (ap (λ (y : Contents). y .output) a ∙ ap (λ (y : FieldSet). record { 0 = length (y .output) }) f) i;
       }

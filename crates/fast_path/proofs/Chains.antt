@@ -16,13 +16,13 @@ use Rattle.decimal.specs.declared.reader.Limited.{Limited}
 use Rattle.decimal.specs.declared.reader.Limited.the-variants.{Malformed, Outside, Value}
 use Rattle.grammar.specs.Bytes.{dollar}
 use Rattle.grammar.specs.Rules.{versionReading, isVersion}
-use Rattle.table.specs.Limits.{Profile, fewKilobytes, inRange, idOf, profileOf, leftOut}
+use Rattle.table.specs.Limits.{Profile, fewKilobytes, inRange, idOf, profileOf, isOmitted}
 use Rattle.table.specs.declared.limits.NumberRule.{NumberRule}
 use Rattle.table.specs.declared.limits.BytesRule.{BytesRule}
 use Rattle.table.specs.declared.version.Version.{Version}
 use Rattle.table.specs.declared.version.Version.the-variants.{Absent, Number}
 use Rattle.profile.specs.declared.fields.Fields.{Fields}
-use Rattle.fast_path.specs.Walk.{Taken, taken, numeralIn, writtenNumber, omittedNumber, numberIn, writtenBytes, bytesIn, allowed, versionIn, numbersIn, headIn, withStrings, afterId, walked}
+use Rattle.fast_path.specs.Walk.{Taken, taken, leadingNumber, writtenNumber, omittedNumber, numberIn, writtenBytes, bytesIn, allowed, versionIn, numbersIn, headIn, withStrings, afterId, walked}
 
 -- ---- a number
 
@@ -30,15 +30,15 @@ module _ (r : NumberRule) (o : Option (ℕ × List ℕ)) (n : ℕ) (t : List ℕ
   pub number-outside : inRange r n ≡ false → andThen o (writtenNumber r) ≡ none
   number-outside h = rw (e, h)
 
-  pub number-unwritten : inRange r n ≡ true → leftOut r n ≡ true → andThen o (writtenNumber r) ≡ none
-  number-unwritten h w = rw (e, h, w)
+  pub number-implied : inRange r n ≡ true → isOmitted r n ≡ true → andThen o (writtenNumber r) ≡ none
+  number-implied h w = rw (e, h, w)
 
-  pub number-written : inRange r n ≡ true → leftOut r n ≡ false → andThen o (writtenNumber r) ≡ some (taken n 44 t)
+  pub number-written : inRange r n ≡ true → isOmitted r n ≡ false → andThen o (writtenNumber r) ≡ some (taken n 44 t)
   number-written h w = rw (e, h, w)
 
 module _ (r : NumberRule) (name : List ℕ) (separator : ℕ) (s : List ℕ) (at : ℕ) where
   pub number-there : startsWith (separator ∷ name) (drop at s) ≡ true
-      → numberIn r name separator (drop at s) ≡ andThen (numeralIn (drop (at + 1 + length name) s)) (writtenNumber r)
+      → numberIn r name separator (drop at s) ≡ andThen (leadingNumber (drop (at + 1 + length name) s)) (writtenNumber r)
   unfolding numberIn
   number-there e = rw (e, rest-at s name at)
 

@@ -33,12 +33,12 @@ fast-path-agrees =
           omega (
             arith,
             at-most (r .keyid) (f .keyid) (h .column .keyid),
-            at-most (r .ad) (f .ad) (h .column .ad),
+            at-most (r .«data») (f .«data») (h .column .«data»),
             at-most (r .salt) (f .salt) (h .column .salt),
             at-most (r .output) (f .output) (h .column .output),
             roomy-two (f .numbers .id),
-            length-append (f .keyid) (f .ad ++ (f .salt ++ f .output)),
-            length-append (f .ad) (f .salt ++ f .output),
+            length-append (f .keyid) (f .«data» ++ (f .salt ++ f .output)),
+            length-append (f .«data») (f .salt ++ f .output),
             length-append (f .salt) (f .output),
           );
     }

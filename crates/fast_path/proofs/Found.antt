@@ -56,9 +56,9 @@ numbers-stand r k v s sm st sp =
 
 record KeysStand (r : Profile) (separator : ℕ) (s : List ℕ) (x : Taken Pair) : Type 0 where
   keyid : bytesAllowed (r .keyid) (x .found .first) ≡ true
-  ad : bytesAllowed (r .ad) (x .found .second) ≡ true
+  «data» : bytesAllowed (r .«data») (x .found .second) ≡ true
   keyid-bytes : all isByte (x .found .first) ≡ true
-  ad-bytes : all isByte (x .found .second) ≡ true
+  data-bytes : all isByte (x .found .second) ≡ true
   stands : Stands separator (keyItems (x .found .first) (x .found .second)) s (x .separator) (x .rest)
 
 keys-stand : (r : Profile) (separator : ℕ) (s : List ℕ) → Holds (KeysStand r separator s) (keysIn r separator s)
@@ -66,12 +66,12 @@ unfolding pairIn
 keys-stand r separator s =
     let Q = KeysStand r separator s in
     bytes-then Q (r .keyid) (text "keyid=") separator s _ (λ k hk.
-    bytes-then Q (r .ad) (text "data=") (k .separator) (k .rest) _ (λ d hd.
+    bytes-then Q (r .«data») (text "data=") (k .separator) (k .rest) _ (λ d hd.
     record {
       keyid = hk .permitted;
-      ad = hd .permitted;
+      «data» = hd .permitted;
       keyid-bytes = hk .bytes;
-      ad-bytes = hd .bytes;
+      data-bytes = hd .bytes;
       stands = stands-append (hk .stands) (hd .stands);
     }))
 
@@ -164,12 +164,12 @@ module _ (e : List Profile) (ok : sound e ≡ true) where
         p = c .p;
         lanes = c .lanes;
         keyid = hy .keyid;
-        ad = hy .ad;
+        «data» = hy .«data»;
         salt = hh .salt;
         output = hh .output;
         order = hh .order;
       }
-      ) (hy .keyid-bytes, hy .ad-bytes, hh .salt-bytes, hh .output-bytes)
+      ) (hy .keyid-bytes, hy .data-bytes, hh .salt-bytes, hh .output-bytes)
       (pieces-row r f ∙ ap (λ (x : List ℕ). 36 ∷ (x ++ restText r f)) (name-of e name known) ∙ ap (λ (x : List ℕ). 36 ∷ (name ++ x)) (sym same-rest) ∙ sym q)) (λ z. tt))))) (λ z. tt)
 
   walked-stands : (s : List ℕ) → Holds (Found e s) (walked e s)

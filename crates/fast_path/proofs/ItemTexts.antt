@@ -9,7 +9,7 @@ use lib.Dec.{eqb}
 use Rattle.text.specs.Text.{text, all, has, startsWith}
 use Rattle.text.proofs.Tests.{both}
 use Rattle.text.proofs.Starts.{starts-without, Begins, differ, starts-differ}
-use Rattle.grammar.specs.Pieces.{Slot}
+use Rattle.grammar.specs.Pieces.{OptionalText}
 use Rattle.table.specs.Limits.{Profile}
 use Rattle.profile.specs.Fields.{FieldSet, writeNumber, writeBytes, writeVersion}
 use Rattle.profile.specs.PieceTexts.{tagged, itemsText, dollared, piecesText}
@@ -18,10 +18,10 @@ use Rattle.fast_path.proofs.Closed.{Separator, Closed}
 
 -- a name with its equals sign, and the text that stands behind it
 abbrev pub Named : Type 0
-Named = List ℕ × Slot
+Named = List ℕ × OptionalText
 
 -- the separator of the next item
-abbrev pub separatorAfter : ℕ → Slot → ℕ
+abbrev pub separatorAfter : ℕ → OptionalText → ℕ
 separatorAfter separator none = separator
 separatorAfter separator (some t) = 44
 
@@ -59,7 +59,7 @@ stands-append {separator} {m} {n} {a} {b} {t} {u} {rest} h k =
 
 -- ---- a comma before each, or a `$` before the first
 
-comma : (s : Slot) → separatorAfter 44 s ≡ 44
+comma : (s : OptionalText) → separatorAfter 44 s ≡ 44
 comma none = refl
 comma (some t) = refl
 
@@ -71,14 +71,14 @@ dollared-items : (l : List Named) (rest : List ℕ) → dollared (items 44 l [])
 dollared-items [] rest = refl
 dollared-items (i ∷ l) rest = go (i .1) (dollared-items l rest)
   where
-    go : (s : Slot) → dollared (items 44 l []) ++ rest ≡ items 36 l rest
+    go : (s : OptionalText) → dollared (items 44 l []) ++ rest ≡ items 36 l rest
         → dollared (tagged (44 ∷ i .0) s ++ items (separatorAfter 44 s) l []) ++ rest ≡ tagged (36 ∷ i .0) s ++ items (separatorAfter 36 s) l rest
     go none h = h
     go (some t) h = ap {B = List ℕ} (λ x. 36 ∷ x) (append-assoc (i .0 ++ t) (items 44 l []) rest ∙ ap (λ (x : List ℕ). (i .0 ++ t) ++ x) (items-rest 44 l rest))
 
 -- ---- how a row of items begins
 
-pub begins-tagged : (P : ℕ → Type 0) (separator : ℕ) (n : List ℕ) (s : Slot) (rest : List ℕ) → P separator → Begins P rest → Begins P (tagged (separator ∷ n) s ++ rest)
+pub begins-tagged : (P : ℕ → Type 0) (separator : ℕ) (n : List ℕ) (s : OptionalText) (rest : List ℕ) → P separator → Begins P rest → Begins P (tagged (separator ∷ n) s ++ rest)
 begins-tagged P separator n none rest p h = h
 begins-tagged P separator n (some t) rest p h = p
 
@@ -86,11 +86,11 @@ pub begins-items : (P : ℕ → Type 0) (separator : ℕ) (l : List Named) (rest
 begins-items P separator [] rest p h = h
 begins-items P separator (i ∷ l) rest p h = go (i .1) (begins-items P separator l rest p h)
   where
-    go : (s : Slot) → Begins P (items separator l rest) → Begins P (tagged (separator ∷ i .0) s ++ items (separatorAfter separator s) l rest)
+    go : (s : OptionalText) → Begins P (items separator l rest) → Begins P (tagged (separator ∷ i .0) s ++ items (separatorAfter separator s) l rest)
     go none k = k
     go (some t) k = p
 
-pub separator-after : (separator : ℕ) (s : Slot) → Separator separator → Separator (separatorAfter separator s)
+pub separator-after : (separator : ℕ) (s : OptionalText) → Separator separator → Separator (separatorAfter separator s)
 separator-after separator none h = h
 separator-after separator (some t) h = λ f p q. q
 
@@ -117,7 +117,7 @@ starts-fresh a b name l rest h e = go l (q .1)
     q : (has 61 name ≡ true) × (all (λ (i : Named). differ name (i .0)) l ≡ true)
     q = both (has 61 name) (all (λ (i : Named). differ name (i .0)) l) e
 
-    one : (n : List ℕ) (s : Slot) (l : List Named) → differ name n ≡ true → startsWith (a ∷ name) (items b l rest) ≡ false
+    one : (n : List ℕ) (s : OptionalText) (l : List Named) → differ name n ≡ true → startsWith (a ∷ name) (items b l rest) ≡ false
         → startsWith (a ∷ name) (tagged (b ∷ n) s ++ items (separatorAfter b s) l rest) ≡ false
     one n none l d k = k
     one n (some t) l d k = rw (append-assoc n t (items 44 l rest), starts-differ name n (t ++ items 44 l rest) d) (and-false (eqb b a))
@@ -136,10 +136,10 @@ costItems r n =
     ∷ []
 
 abbrev pub keyItems : List ℕ → List ℕ → List Named
-keyItems keyid ad = (text "keyid=", writeBytes keyid) ∷ (text "data=", writeBytes ad) ∷ []
+keyItems keyid «data» = (text "keyid=", writeBytes keyid) ∷ (text "data=", writeBytes «data») ∷ []
 
 abbrev pub fiveItems : Profile → Fields → List ℕ → List ℕ → List Named
-fiveItems r n keyid ad = costItems r n ++ keyItems keyid ad
+fiveItems r n keyid «data» = costItems r n ++ keyItems keyid «data»
 
 abbrev pub hashesText : List ℕ → List ℕ → List ℕ
 hashesText salt output = tagged (text "$") (writeBytes salt) ++ (tagged (text "$") (writeBytes output) ++ [])
@@ -148,10 +148,10 @@ hashesText salt output = tagged (text "$") (writeBytes salt) ++ (tagged (text "$
 abbrev pub restText : Profile → FieldSet → List ℕ
 restText r f =
     tagged (text "$") (writeVersion (f .numbers .version))
-    ++ items 36 (fiveItems r (f .numbers) (f .keyid) (f .ad)) (hashesText (f .salt) (f .output))
+    ++ items 36 (fiveItems r (f .numbers) (f .keyid) (f .«data»)) (hashesText (f .salt) (f .output))
 
-five : (r : Profile) (n : Fields) (keyid ad : List ℕ) → itemsText r n keyid ad ≡ items 44 (fiveItems r n keyid ad) []
-five r n keyid ad = simp (comma, append-assoc, append-nil)
+five : (r : Profile) (n : Fields) (keyid «data» : List ℕ) → itemsText r n keyid «data» ≡ items 44 (fiveItems r n keyid «data») []
+five r n keyid «data» = simp (comma, append-assoc, append-nil)
 
 row : (a b c d e : List ℕ) → a ++ b ++ c ++ d ++ e ≡ a ++ (b ++ (c ++ (d ++ (e ++ []))))
 row a b c d e = simp (append-assoc, append-nil)
@@ -160,6 +160,6 @@ pub pieces-row : (r : Profile) (f : FieldSet) → piecesText r f ≡ (36 ∷ r .
 pieces-row r f =
     let v = tagged (text "$") (writeVersion (f .numbers .version)) in
     let h = hashesText (f .salt) (f .output) in
-    row (36 ∷ r .name) v (dollared (itemsText r (f .numbers) (f .keyid) (f .ad))) (tagged (text "$") (writeBytes (f .salt))) (tagged (text "$") (writeBytes (f .output)))
+    row (36 ∷ r .name) v (dollared (itemsText r (f .numbers) (f .keyid) (f .«data»))) (tagged (text "$") (writeBytes (f .salt))) (tagged (text "$") (writeBytes (f .output)))
     ∙ ap (λ (x : List ℕ). (36 ∷ r .name) ++ (v ++ x))
-    (ap (λ (x : List ℕ). dollared x ++ h) (five r (f .numbers) (f .keyid) (f .ad)) ∙ dollared-items (fiveItems r (f .numbers) (f .keyid) (f .ad)) h)
+    (ap (λ (x : List ℕ). dollared x ++ h) (five r (f .numbers) (f .keyid) (f .«data»)) ∙ dollared-items (fiveItems r (f .numbers) (f .keyid) (f .«data»)) h)

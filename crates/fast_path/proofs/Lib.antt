@@ -1,4 +1,4 @@
-pub mod Numerals
+pub mod LeadingNumbers
 pub mod Chains
 pub mod StringLaws
 pub mod RunLaws

@@ -9,7 +9,7 @@ use native.Mathlib.Omega.{arith}
 use lib.Dec.{leb}
 use lib.ListN.{length, take, drop, take-append-drop}
 use borrow.Author.Tests.{eq-eqb}
-use Rattle.text.specs.Text.{text, within, all, empty, isByte, find, run, startsWith, andThen, broken}
+use Rattle.text.specs.Text.{text, within, all, empty, isByte, find, run, startsWith, andThen, violates}
 use Rattle.text.proofs.Tests.{both, not-of-true, is-false, to-within}
 use Rattle.text.proofs.Runs.{run-is}
 use Rattle.text.proofs.Starts.{starts-is, starts-behind}
@@ -19,11 +19,11 @@ use Rattle.b64.proofs.B64Laws.{encode-decode, bytes-decode}
 use Rattle.decimal.specs.Decimal.{isDigit, isUnsigned, value, digits}
 use Rattle.decimal.proofs.DecimalLaws.{digits-value}
 use Rattle.grammar.specs.Bytes.{dollar}
-use Rattle.grammar.specs.Pieces.{Slot, isVersionPiece}
+use Rattle.grammar.specs.Pieces.{OptionalText, isVersionPiece}
 use Rattle.grammar.specs.Rules.{isVersion}
-use Rattle.table.specs.Limits.{inRange, isSize, versionAllowed, largest32, leftOut}
+use Rattle.table.specs.Limits.{inRange, isSize, versionAllowed, largest32, isOmitted}
 use Rattle.table.specs.declared.limits.NumberRule.{NumberRule}
-use Rattle.table.specs.declared.limits.NumberRule.the-variants.{Needed, Omitted, Fixed}
+use Rattle.table.specs.declared.limits.NumberRule.the-variants.{Required, Defaulted, Constant}
 use Rattle.table.specs.declared.limits.BytesRule.{BytesRule}
 use Rattle.table.specs.declared.version.Version.{Version}
 use Rattle.profile.specs.Fields.{writeNumber, writeBytes, readVersion, writeVersion}
@@ -31,41 +31,41 @@ use Rattle.profile.specs.Sound.{soundNumber}
 use Rattle.profile.specs.Writer.{bytesAllowed}
 use Rattle.profile.specs.PieceTexts.{tagged}
 use Rattle.profile.proofs.Codecs.{version-back}
-use Rattle.fast_path.specs.Walk.{Taken, numeralIn, writtenNumber, omittedNumber, numberIn, bytesIn, versionIn}
+use Rattle.fast_path.specs.Walk.{Taken, leadingNumber, writtenNumber, omittedNumber, numberIn, bytesIn, versionIn}
 use Rattle.fast_path.proofs.ItemTexts.{Stands}
 
 -- ---- one number
 
-numeral-stands : (t : List ℕ) → Holds (λ (x : ℕ × List ℕ). t ≡ digits (x .0) ++ x .1) (numeralIn t)
-unfolding numeralIn
+numeral-stands : (t : List ℕ) → Holds (λ (x : ℕ × List ℕ). t ≡ digits (x .0) ++ x .1) (leadingNumber t)
+unfolding leadingNumber
 numeral-stands t =
     let d = run isDigit t in
     holds-if _ (isUnsigned d && leb (value d) largest32) _ _
     (λ h. run-is isDigit t ∙ ap (λ (l : List ℕ). l ++ drop (length d) t) (sym (digits-value d (both (isUnsigned d) (leb (value d) largest32) h .0))))
     (λ h. tt)
 
-written-slot : (r : NumberRule) (n : ℕ) → not (leftOut r n) ≡ true → writeNumber r n ≡ some (digits n)
-written-slot r n e = rw (is-false (leftOut r n) e)
+written-optional : (r : NumberRule) (n : ℕ) → not (isOmitted r n) ≡ true → writeNumber r n ≡ some (digits n)
+written-optional r n e = rw (is-false (isOmitted r n) e)
 
 abbrev pub NumberStands : NumberRule → List ℕ → ℕ → List ℕ → Taken ℕ → Type 0
 NumberStands r name separator t x = (inRange r (x .found) ≡ true) × Stands separator ((name, writeNumber r (x .found)) ∷ []) t (x .separator) (x .rest)
 
 left-stands : (r : NumberRule) → soundNumber r ≡ true → (name : List ℕ) (separator : ℕ) (t : List ℕ) → Holds (NumberStands r name separator t) (omittedNumber r separator t)
-left-stands (Needed low high) k name separator t = tt
-left-stands (Omitted low high given) k name separator t =
-    let e = eq-eqb given given refl in
-    (both (leb high largest32) (within low high given) k .1, record { here = rw e; after = rw e })
-left-stands (Fixed given) k name separator t = (to-within given given given (omega arith) (omega arith), record { here = refl; after = refl })
+left-stands (Required low high) k name separator t = tt
+left-stands (Defaulted low high default) k name separator t =
+    let e = eq-eqb default default refl in
+    (both (leb high largest32) (within low high default) k .1, record { here = rw e; after = rw e })
+left-stands (Constant value) k name separator t = (to-within value value value (omega arith) (omega arith), record { here = refl; after = refl })
 
 number-stands : (r : NumberRule) → soundNumber r ≡ true → (name : List ℕ) (separator : ℕ) (t : List ℕ) → Holds (NumberStands r name separator t) (numberIn r name separator t)
 unfolding numberIn
 number-stands r k name separator t =
     let u = drop (suc (length name)) t in
     holds-if _ (startsWith (separator ∷ name) t) _ _
-    (λ s. holds-then (λ (y : ℕ × List ℕ). u ≡ digits (y .0) ++ y .1) _ (numeralIn u) (writtenNumber r) (numeral-stands u) (λ y h.
-    holds-if _ (inRange r (y .0) && not (leftOut r (y .0))) _ _
-    (λ e. let q = both (inRange r (y .0)) (not (leftOut r (y .0))) e in
-    let w = written-slot r (y .0) (q .1) in
+    (λ s. holds-then (λ (y : ℕ × List ℕ). u ≡ digits (y .0) ++ y .1) _ (leadingNumber u) (writtenNumber r) (numeral-stands u) (λ y h.
+    holds-if _ (inRange r (y .0) && not (isOmitted r (y .0))) _ _
+    (λ e. let q = both (inRange r (y .0)) (not (isOmitted r (y .0))) e in
+    let w = written-optional r (y .0) (q .1) in
     (q .0, record { here = rw w (starts-behind (separator ∷ name) t (digits (y .0)) (y .1) s h); after = rw w }))
     (λ e. tt)))
     (λ s. left-stands r k name separator t)
@@ -83,9 +83,9 @@ pub record BytesStand (r : BytesRule) (name : List ℕ) (separator : ℕ) (t : L
   -- there are none where the separator and the name don't stand there
   pub nothing : empty (x .found) ≡ not (startsWith (separator ∷ name) t)
 
-filled-slot : (bs : List ℕ) → not (empty bs) ≡ true → writeBytes bs ≡ some (encode bs)
-filled-slot [] e = absurd (false≢true e)
-filled-slot (b ∷ bs) e = refl
+filled-optional : (bs : List ℕ) → not (empty bs) ≡ true → writeBytes bs ≡ some (encode bs)
+filled-optional [] e = absurd (false≢true e)
+filled-optional (b ∷ bs) e = refl
 
 bytes-stand : (r : BytesRule) (name : List ℕ) (separator : ℕ) (t : List ℕ) → Holds (BytesStand r name separator t) (bytesIn r name separator t)
 unfolding bytesIn
@@ -97,7 +97,7 @@ bytes-stand r name separator t =
     (λ s. holds-if _ (canonical u && (not (empty bs) && isSize r (length bs))) _ _
     (λ e. let p = both (canonical u) (not (empty bs) && isSize r (length bs)) e in
     let q = both (not (empty bs)) (isSize r (length bs)) (p .1) in
-    let w = filled-slot bs (q .0) in
+    let w = filled-optional bs (q .0) in
     let n = is-false (empty bs) (q .0) in
     let h : v ≡ encode bs ++ drop (length u) v = rw (encode-decode u (p .0)) (run-is inAlphabet v) in
     record {
@@ -122,16 +122,16 @@ VersionStands vs t x = (versionAllowed vs (x .found) ≡ true) × (t ≡ tagged 
 piece-own : (rest : List ℕ)
     → let u = text "v=" ++ rest in
     let piece = take (find dollar u) u in
-    (broken isVersionPiece (some piece) ≡ false) × (text "$v=" ++ rest ≡ (text "$" ++ piece) ++ drop (find dollar u) u)
+    (violates isVersionPiece (some piece) ≡ false) × (text "$v=" ++ rest ≡ (text "$" ++ piece) ++ drop (find dollar u) u)
 piece-own rest = (refl, ap (λ (x : List ℕ). text "$v=" ++ x) (sym (take-append-drop (find dollar rest) rest)))
 
 piece-stands : (t : List ℕ) → startsWith (text "$v=") t ≡ true
     → let u = drop 1 t in
     let piece = take (find dollar u) u in
-    (broken isVersionPiece (some piece) ≡ false) × (t ≡ (text "$" ++ piece) ++ drop (find dollar u) u)
+    (violates isVersionPiece (some piece) ≡ false) × (t ≡ (text "$" ++ piece) ++ drop (find dollar u) u)
 piece-stands t s =
     subst
-    (λ (x : List ℕ). (broken isVersionPiece (some (take (find dollar (drop 1 x)) (drop 1 x))) ≡ false) × (x ≡ (text "$" ++ take (find dollar (drop 1 x)) (drop 1 x)) ++ drop (find dollar (drop 1 x)) (drop 1 x)))
+    (λ (x : List ℕ). (violates isVersionPiece (some (take (find dollar (drop 1 x)) (drop 1 x))) ≡ false) × (x ≡ (text "$" ++ take (find dollar (drop 1 x)) (drop 1 x)) ++ drop (find dollar (drop 1 x)) (drop 1 x)))
     (sym (starts-is (text "$v=") t s)) (piece-own (drop 3 t))
 
 pub version-stands : (vs t : List ℕ) → Holds (VersionStands vs t) (versionIn vs t)
@@ -144,7 +144,7 @@ version-stands vs t =
     (λ v. holds-if _ (versionAllowed vs (readVersion (some piece))) _ _
     (λ e.
     let p = piece-stands t s in
-    (e, p .1 ∙ ap (λ (x : Slot). tagged (text "$") x ++ drop (find dollar u) u) (sym (version-back (some piece) (p .0) (not-of-true v)))))
+    (e, p .1 ∙ ap (λ (x : OptionalText). tagged (text "$") x ++ drop (find dollar u) u) (sym (version-back (some piece) (p .0) (not-of-true v)))))
     (λ e. tt))
     (λ v. tt))
     (λ s. (refl, refl))

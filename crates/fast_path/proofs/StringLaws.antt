@@ -19,9 +19,9 @@ use Rattle.text.proofs.Runs.{run-length}
 use Rattle.text.proofs.Starts.{starts-first}
 use Rattle.text.proofs.Lists.{length-empty, length-filled}
 use Rattle.b64.specs.B64.{inAlphabet, canonical}
-use Rattle.table.specs.Limits.{Profile, isSize, nobody, profileOf, editionTwo}
+use Rattle.table.specs.Limits.{Profile, isSize, noProfile, profileOf, editionTwo}
 use Rattle.table.specs.declared.limits.BytesRule.{BytesRule}
-use Rattle.table.specs.declared.limits.BytesRule.the-variants.{Sized, Barred}
+use Rattle.table.specs.declared.limits.BytesRule.the-variants.{Sized, Forbidden}
 use Rattle.profile.specs.Fields.{FieldSet, fieldSet}
 use Rattle.profile.specs.declared.fields.Fields.{Fields}
 use Rattle.fast_path.specs.Walk.{Taken, taken, writtenBytes, bytesIn, Pair, pairIn, keysIn, hashesIn, withStrings}
@@ -34,11 +34,11 @@ use Rattle.fast_path.proofs.Chains.{bytes-absent}
 
 pub small : (r : BytesRule) (n : ℕ) → isSize r n ≡ true → n ≤ most r
 small (Sized low high) n e = from-within (low .0) (high .0) n e .1
-small Barred n e = let z : _≡_ {A = ℕ} 0 1 = cc in absurd (omega arith)
+small Forbidden n e = let z : _≡_ {A = ℕ} 0 1 = cc in absurd (omega arith)
 
 large : (r : BytesRule) (n : ℕ) → most r < n → isSize r n ≡ false
 large (Sized low high) n h = rw (lt-leb n (high .0) h) (and-false (leb (low .0) n))
-large Barred n h = refl
+large Forbidden n h = refl
 
 module _ (r : BytesRule) (s : List ℕ) (at : ℕ) (out₀ : List ℕ) (from : ℕ) where
   -- the run is no text of so few bytes
@@ -147,7 +147,7 @@ module _ (r : Profile) (f : Fields) (separator : ℕ) (s : List ℕ) (at : ℕ) 
   pub no-keys : keysIn r separator (drop at s) ≡ none → withStrings r (taken f separator (drop at s)) ≡ none
   no-keys e = rw e
 
-  module _ (out₁ : List ℕ) (next k d : ℕ) (x : StoredTwo (keysIn r separator (drop at s)) (most (r .keyid) + most (r .ad)) s out₀ 0 out₁ next k d) where
+  module _ (out₁ : List ℕ) (next k d : ℕ) (x : StoredTwo (keysIn r separator (drop at s)) (most (r .keyid) + most (r .«data»)) s out₀ 0 out₁ next k d) where
     pub no-hashes : hashesIn r (drop next s) ≡ none → withStrings r (taken f separator (drop at s)) ≡ none
     no-hashes e = rw (x .found, e)
 
@@ -194,10 +194,10 @@ module _ (r : Profile) (f : Fields) (separator : ℕ) (s : List ℕ) (at : ℕ) 
 fits-most : Profile → Bool
 fits-most r = leb (roomy r) (mostBytes + 2)
 
-all-fit : all fits-most (nobody ∷ editionTwo) ≡ true
+all-fit : all fits-most (noProfile ∷ editionTwo) ≡ true
 unfolding fits-most editionTwo
 all-fit = refl
 
 pub roomy-two : (k : ℕ) → roomy (profileOf editionTwo k) ≤ mostBytes + 2
 unfolding fits-most
-roomy-two k = leb-true (roomy (profileOf editionTwo k)) (mostBytes + 2) (always fits-most nobody (nobody ∷ editionTwo) refl all-fit k)
+roomy-two k = leb-true (roomy (profileOf editionTwo k)) (mostBytes + 2) (always fits-most noProfile (noProfile ∷ editionTwo) refl all-fit k)

@@ -22,9 +22,9 @@ use Rattle.decimal.specs.Decimal.{isDigit, isUnsigned, digits}
 use Rattle.decimal.proofs.DecimalLaws.{unsigned-cases, value-digits, digits-unsigned}
 use Rattle.grammar.specs.Bytes.{isValueByte, dollar}
 use Rattle.grammar.specs.Rules.{isVersion}
-use Rattle.table.specs.Limits.{inRange, versionAllowed, largest32, leftOut}
+use Rattle.table.specs.Limits.{inRange, versionAllowed, largest32, isOmitted}
 use Rattle.table.specs.declared.limits.NumberRule.{NumberRule}
-use Rattle.table.specs.declared.limits.NumberRule.the-variants.{Needed, Omitted, Fixed}
+use Rattle.table.specs.declared.limits.NumberRule.the-variants.{Required, Defaulted, Constant}
 use Rattle.table.specs.declared.limits.BytesRule.{BytesRule}
 use Rattle.table.specs.declared.version.Version.{Version}
 use Rattle.table.specs.declared.version.Version.the-variants.{Absent, Number}
@@ -33,7 +33,7 @@ use Rattle.profile.specs.Sound.{soundNumber, soundVersions}
 use Rattle.profile.specs.Writer.{bytesAllowed}
 use Rattle.profile.specs.PieceTexts.{tagged}
 use Rattle.profile.proofs.Codecs.{digits-values, version-forth}
-use Rattle.fast_path.specs.Walk.{taken, numeralIn, writtenNumber, omittedNumber, numberIn, writtenBytes, bytesIn, allowed, versionIn}
+use Rattle.fast_path.specs.Walk.{taken, leadingNumber, writtenNumber, omittedNumber, numberIn, writtenBytes, bytesIn, allowed, versionIn}
 use Rattle.fast_path.proofs.Closed.{Separator, Closed, run-closed}
 use Rattle.fast_path.proofs.ItemTexts.{Named, separatorAfter, items, separator-after, fresh, Behind, closed-items, starts-fresh}
 
@@ -48,40 +48,40 @@ digits-run : (n : ℕ) (rest : List ℕ) → Closed rest → run isDigit (digits
 unfolding isDigit
 digits-run n rest h = run-on isDigit (digits n) rest (unsigned-digits (digits n) (digits-unsigned n)) (run-closed isDigit refl refl rest h)
 
-numeral-reads : (n : ℕ) (rest : List ℕ) → n ≤ largest32 → Closed rest → numeralIn (digits n ++ rest) ≡ some (n, rest)
-unfolding numeralIn
+numeral-reads : (n : ℕ) (rest : List ℕ) → n ≤ largest32 → Closed rest → leadingNumber (digits n ++ rest) ≡ some (n, rest)
+unfolding leadingNumber
 numeral-reads n rest l h =
     rw (digits-run n rest h, digits-unsigned n, value-digits n, le-leb n largest32 l, drop-at (digits n) rest (length (digits n)) refl)
 
 -- a number that is no parameter left out
-number-there : (r : NumberRule) (n : ℕ) (name : List ℕ) (separator : ℕ) (rest : List ℕ) → n ≤ largest32 → inRange r n ≡ true → leftOut r n ≡ false → Closed rest
+number-there : (r : NumberRule) (n : ℕ) (name : List ℕ) (separator : ℕ) (rest : List ℕ) → n ≤ largest32 → inRange r n ≡ true → isOmitted r n ≡ false → Closed rest
     → numberIn r name separator (((separator ∷ name) ++ digits n) ++ rest) ≡ some (taken n 44 rest)
 unfolding numberIn
 number-there r n name separator rest l e w h =
-    behind-tag (separator ∷ name) (digits n) rest (λ (u : List ℕ). andThen (numeralIn u) (writtenNumber r)) (omittedNumber r separator (((separator ∷ name) ++ digits n) ++ rest))
+    behind-tag (separator ∷ name) (digits n) rest (λ (u : List ℕ). andThen (leadingNumber u) (writtenNumber r)) (omittedNumber r separator (((separator ∷ name) ++ digits n) ++ rest))
     ∙ rw (numeral-reads n rest l h, e, w)
 
 number-reads : (r : NumberRule) (n : ℕ) (name : List ℕ) (separator : ℕ) (rest : List ℕ) → soundNumber r ≡ true → inRange r n ≡ true
     → Closed rest → startsWith (separator ∷ name) rest ≡ false
     → numberIn r name separator (tagged (separator ∷ name) (writeNumber r n) ++ rest) ≡ some (taken n (separatorAfter separator (writeNumber r n)) rest)
 unfolding numberIn
-number-reads (Needed low high) n name separator rest k e h f =
+number-reads (Required low high) n name separator rest k e h f =
     let l = leb-true high largest32 k in
     let w = from-within low high n e in
-    number-there (Needed low high) n name separator rest (omega arith) e refl h
-number-reads (Omitted low high given) n name separator rest k e h f = go (eqb n given) refl
+    number-there (Required low high) n name separator rest (omega arith) e refl h
+number-reads (Defaulted low high default) n name separator rest k e h f = go (eqb n default) refl
   where
-    go : (b : Bool) → eqb n given ≡ b
-        → numberIn (Omitted low high given) name separator (tagged (separator ∷ name) (cond b none (some (digits n))) ++ rest)
+    go : (b : Bool) → eqb n default ≡ b
+        → numberIn (Defaulted low high default) name separator (tagged (separator ∷ name) (cond b none (some (digits n))) ++ rest)
         ≡ some (taken n (separatorAfter separator (cond b none (some (digits n)))) rest)
-    go true q = rw (f, eqb-true n given q)
+    go true q = rw (f, eqb-true n default q)
     go false q =
-        let l = leb-true high largest32 (both (leb high largest32) (within low high given) k .0) in
+        let l = leb-true high largest32 (both (leb high largest32) (within low high default) k .0) in
         let w = from-within low high n e in
-        number-there (Omitted low high given) n name separator rest (omega arith) e q h
-number-reads (Fixed given) n name separator rest k e h f =
-    let w = from-within given given n e in
-    let q : given ≡ n = omega arith in
+        number-there (Defaulted low high default) n name separator rest (omega arith) e q h
+number-reads (Constant value) n name separator rest k e h f =
+    let w = from-within value value n e in
+    let q : value ≡ n = omega arith in
     rw (f, q)
 
 -- ---- one byte string

@@ -54,10 +54,10 @@ no-dollar (b ∷ salt) output h e = absurd (false≢true e)
 -- the string of permitted fields, whose entry passes the test
 module _ (e : List Profile) (f : FieldSet) (E : Entry e (f .numbers .id) (here e f)) (P : Permitted e f) where
   abbrev keys : List Named
-  keys = keyItems (f .keyid) (f .ad)
+  keys = keyItems (f .keyid) (f .«data»)
 
   abbrev five : List Named
-  five = fiveItems (here e f) (f .numbers) (f .keyid) (f .ad)
+  five = fiveItems (here e f) (f .numbers) (f .keyid) (f .«data»)
 
   abbrev hashes : List ℕ
   hashes = hashesText (f .salt) (f .output)
@@ -108,18 +108,18 @@ module _ (e : List Profile) (f : FieldSet) (E : Entry e (f .numbers .id) (here e
         P .column .lanes,
       )
 
-  keys-read : keysIn (here e f) next (items next keys hashes) ≡ some (taken (record { first = f .keyid; second = f .ad }) (separators next keys) hashes)
+  keys-read : keysIn (here e f) next (items next keys hashes) ≡ some (taken (record { first = f .keyid; second = f .«data» }) (separators next keys) hashes)
   unfolding pairIn
   keys-read =
       let n = f .numbers in
       let r = here e f in
       let b = P .bytes in
       let k = writeBytes (f .keyid) in
-      let d = writeBytes (f .ad) in
+      let d = writeBytes (f .«data») in
       let c = separators-separator 36 (costItems (here e f) n) dollar in
       rw (
         bytes-item (text "keyid=") next ((text "data=", d) ∷ []) hashes c behind-items refl (r .keyid) (f .keyid) (P .column .keyid) (b .0),
-        bytes-item (text "data=") (separatorAfter next k) [] hashes (separator-after next k c) behind-items refl (r .ad) (f .ad) (P .column .ad) (b .1),
+        bytes-item (text "data=") (separatorAfter next k) [] hashes (separator-after next k c) behind-items refl (r .«data») (f .«data») (P .column .«data») (b .1),
       )
 
   hashes-read : hashesIn (here e f) hashes ≡ some (taken (record { first = f .salt; second = f .output }) (separatorAfter 36 (writeBytes (f .output))) [])

@@ -15,14 +15,14 @@ use Rattle.profile.specs.declared.fields.Reading.{Reading}
 use Rattle.fast_path.specs.declared.contents.Contents.{Contents}
 
 abbrev pub joinedBytes : FieldSet → List ℕ
-joinedBytes f = f .keyid ++ (f .ad ++ (f .salt ++ f .output))
+joinedBytes f = f .keyid ++ (f .«data» ++ (f .salt ++ f .output))
 
 abbrev pub counted : Reading → FieldSet → Contents
 counted r f =
     record {
       reading = r;
       keyid = record { 0 = length (f .keyid) };
-      ad = record { 0 = length (f .ad) };
+      «data» = record { 0 = length (f .«data») };
       salt = record { 0 = length (f .salt) };
       output = record { 0 = length (f .output) };
     }
@@ -33,7 +33,7 @@ refusedContents n =
     record {
       reading = refusedReading n;
       keyid = record { 0 = 0 };
-      ad = record { 0 = 0 };
+      «data» = record { 0 = 0 };
       salt = record { 0 = 0 };
       output = record { 0 = 0 };
     }

@@ -13,7 +13,7 @@ use Rattle.b64.specs.B64.{inAlphabet, canonical, decode}
 use Rattle.decimal.specs.Decimal.{isDigit, isUnsigned, value}
 use Rattle.grammar.specs.Bytes.{dollar, comma}
 use Rattle.grammar.specs.Rules.{isVersion}
-use Rattle.table.specs.Limits.{Profile, inRange, fewKilobytes, isSize, versionAllowed, idOf, profileOf, largest32, misplacedNumber, given, leftOut}
+use Rattle.table.specs.Limits.{Profile, inRange, fewKilobytes, isSize, versionAllowed, idOf, profileOf, largest32, misplacedNumber, defaultOf, isOmitted}
 use Rattle.table.specs.declared.limits.NumberRule.{NumberRule}
 use Rattle.table.specs.declared.limits.BytesRule.{BytesRule}
 use Rattle.table.specs.declared.version.Version.{Version}
@@ -34,21 +34,21 @@ taken found separator rest = record { found = found; separator = separator; rest
 -- ---- one number
 
 -- the digits at the start, where they are a decimal of 32 bits; and the text after them
-unfoldable pub numeralIn : List ℕ → Option (ℕ × List ℕ)
-numeralIn t = let d = run isDigit t in cond (isUnsigned d && leb (value d) largest32) (some (value d, drop (length d) t)) none
+unfoldable pub leadingNumber : List ℕ → Option (ℕ × List ℕ)
+leadingNumber t = let d = run isDigit t in cond (isUnsigned d && leb (value d) largest32) (some (value d, drop (length d) t)) none
 
 -- a number that is in range and not to be left out
 abbrev pub writtenNumber : NumberRule → ℕ × List ℕ → Option (Taken ℕ)
-writtenNumber r x = cond (inRange r (x .0) && not (leftOut r (x .0))) (some (taken (x .0) comma (x .1))) none
+writtenNumber r x = cond (inRange r (x .0) && not (isOmitted r (x .0))) (some (taken (x .0) comma (x .1))) none
 
 -- a number that doesn't stand in the string
 abbrev pub omittedNumber : NumberRule → ℕ → List ℕ → Option (Taken ℕ)
-omittedNumber r separator t = cond (misplacedNumber r none) none (some (taken (given r) separator t))
+omittedNumber r separator t = cond (misplacedNumber r none) none (some (taken (defaultOf r) separator t))
 
 -- a number after its separator and its name, or left out
 unfoldable pub numberIn : NumberRule → List ℕ → ℕ → List ℕ → Option (Taken ℕ)
 numberIn r name separator t =
-    cond (startsWith (separator ∷ name) t) (andThen (numeralIn (drop (suc (length name)) t)) (writtenNumber r)) (omittedNumber r separator t)
+    cond (startsWith (separator ∷ name) t) (andThen (leadingNumber (drop (suc (length name)) t)) (writtenNumber r)) (omittedNumber r separator t)
 
 -- ---- one byte string
 
@@ -101,7 +101,7 @@ pairIn a a-name b b-name pieces separator s =
     some (taken (record { first = x .found; second = y .found }) (y .separator) (y .rest))))
 
 abbrev pub keysIn : Profile → ℕ → List ℕ → Option (Taken Pair)
-keysIn r separator s = pairIn (r .keyid) (text "keyid=") (r .ad) (text "data=") false separator s
+keysIn r separator s = pairIn (r .keyid) (text "keyid=") (r .«data») (text "data=") false separator s
 
 abbrev pub hashesIn : Profile → List ℕ → Option (Taken Pair)
 hashesIn r s = pairIn (r .salt) [] (r .output) [] true dollar s

@@ -15,15 +15,15 @@ use Rattle.decimal.specs.Decimal.{isDigit, value}
 use Rattle.grammar.specs.Bytes.{dollar}
 use Rattle.table.specs.Limits.{Profile}
 use Rattle.table.specs.declared.limits.BytesRule.{BytesRule}
-use Rattle.table.specs.declared.limits.BytesRule.the-variants.{Sized, Barred}
+use Rattle.table.specs.declared.limits.BytesRule.the-variants.{Sized, Forbidden}
 use Rattle.table.specs.declared.version.Version.{Version}
 use Rattle.profile.specs.Fields.{FieldSet}
 use Rattle.profile.specs.declared.fields.Fields.{Fields}
 use Rattle.fast_path.specs.Contents.{joinedBytes, refusedContents}
-use Rattle.fast_path.specs.Walk.{Taken, taken, numeralIn, Pair}
+use Rattle.fast_path.specs.Walk.{Taken, taken, leadingNumber, Pair}
 use Rattle.fast_path.specs.declared.contents.Contents.{Contents}
-use Rattle.fast_path.specs.declared.numeral.Numeral.{Numeral}
-use Rattle.fast_path.specs.declared.numeral.Numeral.the-variants.{No as Numeral·No, Is as Numeral·Is}
+use Rattle.fast_path.specs.declared.leading_number.LeadingNumber.{LeadingNumber}
+use Rattle.fast_path.specs.declared.leading_number.LeadingNumber.the-variants.{No as LeadingNumber·No, Is as LeadingNumber·Is}
 use Rattle.fast_path.specs.declared.run.Run.{Run}
 use Rattle.fast_path.specs.declared.run.Run.the-variants.{No as Run·No, To as Run·To}
 use Rattle.fast_path.specs.declared.items.NumberItem.{NumberItem}
@@ -50,9 +50,9 @@ pub record Counted (s : List ℕ) (at n next : ℕ) : Type 0 where
   pub number : n ≡ value (digitsAt s at)
   pub next-is : next ≡ at + length (digitsAt s at)
 
-abbrev pub NumeralIs : List ℕ → ℕ → Numeral → Type 0
-NumeralIs s at Numeral·No = numeralIn (drop at s) ≡ none
-NumeralIs s at (Numeral·Is n next) = (numeralIn (drop at s) ≡ some (n, drop next s)) × (next ≤ length s)
+abbrev pub LeadingNumberIs : List ℕ → ℕ → LeadingNumber → Type 0
+LeadingNumberIs s at LeadingNumber·No = leadingNumber (drop at s) ≡ none
+LeadingNumberIs s at (LeadingNumber·Is n next) = (leadingNumber (drop at s) ≡ some (n, drop next s)) × (next ≤ length s)
 
 abbrev pub NumberIs : Option (Taken ℕ) → List ℕ → NumberItem → Type 0
 NumberIs o s NumberItem·No = o ≡ none
@@ -117,7 +117,7 @@ RunIs s at out₀ from out (Run·To next end) = Ran s at out₀ from out next en
 -- the most bytes that a rule permits
 abbrev pub most : BytesRule → ℕ
 most (Sized low high) = high .0
-most Barred = 0
+most Forbidden = 0
 
 -- a byte string was taken, at most `high` bytes, and stands in the buffer
 pub record Stored (o : Option (Taken (List ℕ))) (high : ℕ) (s out₀ : List ℕ) (from : ℕ) (out : List ℕ) (next end separator : ℕ) : Type 0 where
@@ -154,18 +154,18 @@ abbrev pub kindFor : ℕ → ℕ → ℕ
 kindFor salt output = cond (eqb output 0) (cond (eqb salt 0) 1 2) 3
 
 abbrev pub contentsFor : Fields → ℕ → ℕ → ℕ → ℕ → Contents
-contentsFor f keyid ad salt output =
+contentsFor f keyid «data» salt output =
     record {
       reading = record { number = 0; kind = kindFor salt output; fields = f };
       keyid = record { 0 = keyid };
-      ad = record { 0 = ad };
+      «data» = record { 0 = «data» };
       salt = record { 0 = salt };
       output = record { 0 = output };
     }
 
 -- room for all four byte strings, and two bytes more for the decoder's test
 abbrev pub roomy : Profile → ℕ
-roomy r = most (r .keyid) + most (r .ad) + most (r .salt) + most (r .output) + 2
+roomy r = most (r .keyid) + most (r .«data») + most (r .salt) + most (r .output) + 2
 
 -- the buffer that the walk decodes into
 abbrev pub bufferLength : ℕ
@@ -174,7 +174,7 @@ bufferLength = 160
 -- the answer that goes with fields: accepted, and each byte string's length
 abbrev pub contentsOf : FieldSet → Contents
 contentsOf f =
-    contentsFor (f .numbers) (length (f .keyid)) (length (f .ad)) (length (f .salt)) (length (f .output))
+    contentsFor (f .numbers) (length (f .keyid)) (length (f .«data»)) (length (f .salt)) (length (f .output))
 
 -- the fields were found, and their byte strings stand at the start of the buffer
 pub record StoredAll (o : Option FieldSet) (out₀ out : List ℕ) (c : Contents) : Type 0 where
@@ -191,7 +191,7 @@ FoundIn o out₀ out (Found c) = StoredAll o out₀ out c
 -- ---- into the caller's buffer
 
 abbrev pub total : Contents → ℕ
-total c = c .keyid .0 + c .ad .0 + c .salt .0 + c .output .0
+total c = c .keyid .0 + c .«data» .0 + c .salt .0 + c .output .0
 
 -- the first bytes of out that c counts, put from the place on; or the refusal
 pub record StoredIs (c : Contents) (out buf₀ : List ℕ) (at : ℕ) (buf : List ℕ) (r : Contents) : Type 0 where

@@ -7,7 +7,7 @@ use text::units::Bytes;
 pub struct Contents {
     pub reading: Reading,
     pub keyid: Bytes,
-    pub ad: Bytes,
+    pub data: Bytes,
     pub salt: Bytes,
     pub output: Bytes,
 }

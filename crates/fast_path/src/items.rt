@@ -1,23 +1,23 @@
 // One item of a string after its separator and its name, or left out: a number, a byte string.
 use crate::begin::begins;
-use crate::numeral::Numeral;
-use crate::numeral::number;
+use crate::leading_number::LeadingNumber;
+use crate::leading_number::number;
 use crate::run::Run;
 use crate::run::decode_run;
 use table::bounds::in_range;
 use table::bounds::is_size;
 use table::limits::BytesRule;
 use table::limits::NumberRule;
-use table::omitted::given_of;
-use table::omitted::is_needed;
-use table::omitted::left_out;
+use table::omitted::default_of;
+use table::omitted::is_required;
+use table::omitted::is_omitted;
 use text::units::Bytes;
 ghost use Prim.Native.Nat.{ℕ, _+_, _≤_};
 ghost use mathlib.Core.List.{List};
 ghost use lib.ListN.{length, drop};
 ghost use Rattle.text.specs.Text.{andThen};
 ghost use Rattle.b64.specs.B64.{Sextets};
-ghost use Rattle.fast_path.specs.Walk.{numeralIn, writtenNumber, omittedNumber, numberIn, writtenBytes, bytesIn};
+ghost use Rattle.fast_path.specs.Walk.{leadingNumber, writtenNumber, omittedNumber, numberIn, writtenBytes, bytesIn};
 ghost use Rattle.fast_path.specs.WalkSteps.{NumberIs, most, BytesAre};
 
 // The number, the place after its item, and the separator before the next.
@@ -34,13 +34,13 @@ pub enum BytesItem {
 
 // A number whose separator and name were read.
 fn written_number(rule: NumberRule, s: &[u8], at: usize) -> NumberItem
-    ensures { λ r. ⌜ NumberIs (andThen (numeralIn (drop at (now (s .entry)))) (writtenNumber rule)) (now (s .entry)) r ⌝ }
+    ensures { λ r. ⌜ NumberIs (andThen (leadingNumber (drop at (now (s .entry)))) (writtenNumber rule)) (now (s .entry)) r ⌝ }
 {
     match number(s, at) {
-        Numeral::No => NumberItem::No,
-        Numeral::Is(n, next) => {
+        LeadingNumber::No => NumberItem::No,
+        LeadingNumber::Is(n, next) => {
             if in_range(rule, n) {
-                if left_out(rule, n) {
+                if is_omitted(rule, n) {
                     return NumberItem::No;
                 }
                 return NumberItem::Is(n, next, b',');
@@ -54,10 +54,10 @@ fn written_number(rule: NumberRule, s: &[u8], at: usize) -> NumberItem
 fn omitted_number(rule: NumberRule, at: usize, separator: u8) -> NumberItem
     ensures { λ r. ⌜ ((s : List ℕ) → at ≤ length s → NumberIs (omittedNumber rule separator (drop at s)) s r) ⌝ }
 {
-    if is_needed(rule) {
+    if is_required(rule) {
         return NumberItem::No;
     }
-    NumberItem::Is(given_of(rule), at, separator)
+    NumberItem::Is(default_of(rule), at, separator)
 }
 
 pub fn number_item(rule: NumberRule, name: &[u8], s: &[u8], at: usize, separator: u8) -> NumberItem

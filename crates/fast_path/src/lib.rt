@@ -3,7 +3,7 @@
 mod begin;
 pub mod contents;
 mod items;
-mod numeral;
+mod leading_number;
 pub mod reader;
 mod run;
 mod strings;

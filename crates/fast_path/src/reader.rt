@@ -58,7 +58,7 @@ fn refused(number: u8) -> Contents
             },
         },
         keyid: none,
-        ad: none,
+        data: none,
         salt: none,
         output: none,
     }
@@ -69,7 +69,7 @@ fn store(c: Contents, out: &[u8], buf: &mut [u8], at: usize) -> Contents
     requires { ⌜ total c ≤ length (now out) ⌝ }
     ensures { λ r. ⌜ StoredIs c (now (out .entry)) (now (buf .entry)) at (now (buf .exit)) r ⌝ }
 {
-    let n = c.keyid.0 + c.ad.0 + c.salt.0 + c.output.0;
+    let n = c.keyid.0 + c.data.0 + c.salt.0 + c.output.0;
     let w = write_text(&out[0..n], buf, at);
     if w.number != 0 {
         return refused(w.number);

@@ -166,7 +166,7 @@ fn contents_for(
             fields,
         },
         keyid: Bytes(keyid_end),
-        ad: Bytes(ad_end - keyid_end),
+        data: Bytes(ad_end - keyid_end),
         salt: Bytes(salt_end - ad_end),
         output: Bytes(output_end - salt_end),
     }
@@ -187,14 +187,14 @@ fn with_strings(
     ensures { λ r. ⌜ FoundIn (withStrings (profileIn column) (taken fields separator (drop at (now (s .entry))))) (now (out .entry)) (now (out .exit)) r ⌝ }
 {
     let keyid = column.keyid;
-    let ad = column.ad;
+    let data = column.data;
     let salt = column.salt;
     let output = column.output;
     match two_keys(
         table,
         keyid,
         b"keyid=",
-        ad,
+        data,
         b"data=",
         s,
         at,

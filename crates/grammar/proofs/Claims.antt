@@ -7,7 +7,7 @@ use Rattle.decimal.specs.Decimal.{isDigit, isUnsigned, valueFrom, value, isDeci
 use Rattle.decimal.specs.Numerals.{numeral, limitedReading}
 use Rattle.grammar.specs.Bytes.{isNameByte, isValueByte, isText}
 use Rattle.grammar.specs.Pieces.{pieces}
-use Rattle.grammar.specs.Rules.{isItem, isParams, versionReading, isVersion, isOutput, badWhole, grammarNumber}
+use Rattle.grammar.specs.Rules.{isItem, isParams, versionReading, isVersion, isOutput, badString, grammarNumber}
 use Rattle.grammar.specs.Claims.{PieceClaims}
 use Rattle.grammar.proofs.PieceLaws.{string-pieces, pieces-string}
 use Rattle.grammar.proofs.ItemLaws.{params-items, items-params}
@@ -15,7 +15,7 @@ use Rattle.grammar.proofs.Reading.{piece-part}
 use Rattle.grammar.proofs.Longest.{at-most, never-empty}
 
 pub piece-claims : PieceClaims
-unfolding grammarNumber badWhole pieces isItem isParams isVersion versionReading isOutput isText isNameByte isValueByte isDigit limitedReading numeral isDecimal decimalValue isUnsigned value valueFrom canonical lowBitsZero sextet
+unfolding grammarNumber badString pieces isItem isParams isVersion versionReading isOutput isText isNameByte isValueByte isDigit limitedReading numeral isDecimal decimalValue isUnsigned value valueFrom canonical lowBitsZero sextet
 piece-claims =
     record {
       string-pieces = string-pieces;

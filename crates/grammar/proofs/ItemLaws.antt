@@ -14,7 +14,7 @@ use Rattle.text.proofs.Tests.{both}
 use Rattle.text.proofs.Lists.{not-in, has-append, join-split, split-join, cut-join, join-cut}
 use Rattle.text.proofs.Splitting.{from-to, from-zero}
 use Rattle.grammar.specs.Bytes.{comma, equals, isNameByte, isValueByte, isText}
-use Rattle.grammar.specs.Pieces.{Slot}
+use Rattle.grammar.specs.Pieces.{OptionalText}
 use Rattle.grammar.specs.Items.{Item, itemText, items, itemsFrom, itemsOf, paramsText}
 use Rattle.grammar.specs.Limits.{mostItems}
 use Rattle.grammar.specs.Rules.{isName, isValue, isItem, isParams}
@@ -92,7 +92,7 @@ join-items s e =
     ap₂ (join comma) (uncut (p .0) (q .0)) (uncut-all (p .1) (q .1)) ∙ join-split comma s
 
 pub params-items : (s : List ℕ) → all isItem (items s) ≡ true → paramsText (items s) ≡ some s
-params-items s e = ap {B = Slot} some (join-items s e)
+params-items s e = ap {B = OptionalText} some (join-items s e)
 
 -- a byte that no name and no value has stands in no text of an item, but for the equals sign
 module _ (d : ℕ) (n : isNameByte d ≡ false) (v : isValueByte d ≡ false) where

@@ -9,7 +9,7 @@ use native.Mathlib.Omega.{arith}
 use lib.Dec.{leb, eqb}
 use lib.ListN.{length, length-append}
 use borrow.Author.Tests.{leb-true}
-use Rattle.text.specs.Text.{within, all, split, cut, listOf, broken}
+use Rattle.text.specs.Text.{within, all, split, cut, listOf, violates}
 use Rattle.text.specs.Rows.{firstOf}
 use Rattle.text.proofs.Tests.{both, is-true, from-within}
 use Rattle.text.proofs.Rows.{Clear, clear}
@@ -23,7 +23,7 @@ use Rattle.decimal.proofs.DecimalLaws.{length-digits}
 use Rattle.decimal.proofs.NumeralLaws.{digits-limited}
 use Rattle.grammar.specs.Bytes.{dollar, comma, equals, inClass, isText}
 use Rattle.grammar.specs.Limits.{longestString}
-use Rattle.grammar.specs.Pieces.{Slot, Pieces, pieces, slotOf, afterId, string}
+use Rattle.grammar.specs.Pieces.{OptionalText, Pieces, pieces, pieceIn, afterId, string}
 use Rattle.grammar.specs.Items.{Item, itemText, items}
 use Rattle.grammar.specs.Rules.{isName, isValue, isItem, isParams, versionReading, isVersion, isOutput, ruleOf, breaks, pieceRows, grammarNumber}
 use Rattle.grammar.specs.declared.classes.Class.{Class}
@@ -54,14 +54,14 @@ items-total (i ∷ is) e =
     omega arith
 
 -- at most n bytes, if there
-abbrev Short : ℕ → Slot → Type 0
+abbrev Short : ℕ → OptionalText → Type 0
 Short n none = Unit {0}
 Short n (some t) = length t ≤ n
 
-add-slot : (n : ℕ) (s : Slot) (l : List (List ℕ)) → Short n s → total (listOf s ++ l) ≤ suc n + total l
+add-value : (n : ℕ) (s : OptionalText) (l : List (List ℕ)) → Short n s → total (listOf s ++ l) ≤ suc n + total l
 unfolding total
-add-slot n none l h = omega arith
-add-slot n (some t) l h = omega arith
+add-value n none l h = omega arith
+add-value n (some t) l h = omega arith
 
 version-digits : (s : List ℕ) (r : Limited) → limitedReading 0 4294967295 s ≡ r → eqb (limitedNumber r) 0 ≡ true → length s ≤ 10
 version-digits s Malformed e z = absurd (false≢true z)
@@ -71,14 +71,14 @@ version-digits s (Value n) e z =
     let h : length (digits n) ≤ 10 = length-digits 9 n (omega (arith, p .2)) in
     omega (arith, ap length (p .0))
 
-version-short : (s : Slot) → broken isVersion s ≡ false → Short 12 s
+version-short : (s : OptionalText) → violates isVersion s ≡ false → Short 12 s
 unfolding isVersion versionReading limitedReading numeral isDecimal
 version-short none e = tt
 version-short (some []) e = absurd (true≢false e)
 version-short (some (c ∷ [])) e = absurd (true≢false e)
 version-short (some (c ∷ d ∷ t)) e = let h = version-digits t (limitedReading 0 4294967295 t) refl (is-true _ e) in omega arith
 
-params-short : (s : Slot) → broken isParams s ≡ false → Short 2591 s
+params-short : (s : OptionalText) → violates isParams s ≡ false → Short 2591 s
 unfolding isParams
 params-short none e = tt
 params-short (some s) e =
@@ -93,11 +93,11 @@ params-short (some s) e =
     let d = ap length (join-items s (q .1)) in
     omega arith
 
-value-short : (s : Slot) → broken isValue s ≡ false → Short 128 s
+value-short : (s : OptionalText) → violates isValue s ≡ false → Short 128 s
 value-short none e = tt
 value-short (some s) e = text-length _ 128 s (is-true (isValue s) e)
 
-output-short : (s : Slot) → broken isOutput s ≡ false → Short 128 s
+output-short : (s : OptionalText) → violates isOutput s ≡ false → Short 128 s
 unfolding isOutput
 output-short none e = tt
 output-short (some s) e = from-within 1 128 (length s) (both (within 1 128 (length s)) (canonical s) (is-true (isOutput s) e) .0) .1
@@ -109,10 +109,10 @@ whole-length p (a, (b, (c, (d, (e, (f, g)))))) =
     let l₃ = listOf (p .output) ++ l₄ in
     let l₂ = listOf (p .salt) ++ l₃ in
     let l₁ = listOf (p .params) ++ l₂ in
-    let h₁ = add-slot 12 (p .version) l₁ (version-short (p .version) b) in
-    let h₂ = add-slot 2591 (p .params) l₂ (params-short (p .params) c) in
-    let h₃ = add-slot 128 (p .salt) l₃ (value-short (p .salt) d) in
-    let h₄ = add-slot 128 (p .output) l₄ (output-short (p .output) e) in
+    let h₁ = add-value 12 (p .version) l₁ (version-short (p .version) b) in
+    let h₂ = add-value 2591 (p .params) l₂ (params-short (p .params) c) in
+    let h₃ = add-value 128 (p .salt) l₃ (value-short (p .salt) d) in
+    let h₄ = add-value 128 (p .output) l₄ (output-short (p .output) e) in
     let h₅ = total-none (p .more) f in
     let h₆ = join-length dollar (p .id) (afterId p) in
     omega arith
@@ -137,9 +137,9 @@ kept p c Params = c .1 .1 .0
 kept p c Salt = c .1 .1 .1 .0
 kept p c Output = c .1 .1 .1 .1 .0
 
-filled : (w : Piece) (t : List ℕ) → broken (ruleOf w) (some t) ≡ false → 0 < length t
+filled : (w : Piece) (t : List ℕ) → violates (ruleOf w) (some t) ≡ false → 0 < length t
 filled w [] e = absurd (false≢true (sym (empty-breaks w) ∙ is-true (ruleOf w []) e))
 filled w (c ∷ t) e = omega arith
 
-pub never-empty : (s : List ℕ) → grammarNumber s ≡ 0 → (w : Piece) (t : List ℕ) → slotOf (pieces s) w ≡ some t → 0 < length t
+pub never-empty : (s : List ℕ) → grammarNumber s ≡ 0 → (w : Piece) (t : List ℕ) → pieceIn (pieces s) w ≡ some t → 0 < length t
 never-empty s e w t q = filled w t (rw q at (kept (pieces s) (accepted-rows s e .1) w))

@@ -9,7 +9,7 @@ use Rattle.text.specs.Text.{Parts, split, join, headIf, tailIf, listOf}
 use Rattle.text.proofs.Lists.{join-split, split-join, head-tail, head-of, tail-of}
 use Rattle.grammar.specs.Bytes.{dollar}
 use Rattle.grammar.specs.Pieces.{Pieces, belongs, sort, afterFirst, pieces, afterId, string}
-use Rattle.grammar.specs.Rules.{starts}
+use Rattle.grammar.specs.Rules.{beginsWithDollar}
 use Rattle.grammar.specs.Claims.{Sorts}
 use Rattle.grammar.specs.declared.places.Piece.the-variants.{Version, Params, Salt, Output}
 
@@ -20,11 +20,11 @@ after-sort p =
     let l₃ = tailIf (belongs Salt) l₂ in
     rw (head-tail (belongs Output) l₃, head-tail (belongs Salt) l₂, head-tail (belongs Params) l₁, head-tail (belongs Version) (p .1))
 
-first : (s : List ℕ) → starts s ≡ true → dollar ∷ afterFirst s ≡ s
+first : (s : List ℕ) → beginsWithDollar s ≡ true → dollar ∷ afterFirst s ≡ s
 first [] e = absurd (false≢true e)
 first (c ∷ s) e = ap {B = List ℕ} (λ x. x ∷ s) (sym (eqb-true c dollar e))
 
-pub string-pieces : (s : List ℕ) → starts s ≡ true → string (pieces s) ≡ s
+pub string-pieces : (s : List ℕ) → beginsWithDollar s ≡ true → string (pieces s) ≡ s
 unfolding pieces
 string-pieces s e =
     let p = split dollar (afterFirst s) in

@@ -14,10 +14,10 @@ use Rattle.text.specs.Rows.{firstOf}
 use Rattle.text.proofs.Tests.{neither, is-true}
 use Rattle.text.proofs.Rows.{Clear, clear}
 use Rattle.grammar.specs.Bytes.{dollar, comma, equals}
-use Rattle.grammar.specs.Pieces.{Slot, pieces, slotOf}
+use Rattle.grammar.specs.Pieces.{OptionalText, pieces, pieceIn}
 use Rattle.grammar.specs.Items.{Item, itemsOf}
 use Rattle.grammar.specs.Limits.{longestString}
-use Rattle.grammar.specs.Rules.{starts, badWhole, pieceRows, grammarRows, grammarNumber}
+use Rattle.grammar.specs.Rules.{beginsWithDollar, badString, pieceRows, grammarRows, grammarNumber}
 use Rattle.grammar.specs.Layout.{span, noPlaces, placesOf, spanOf, refusedLayout, acceptedLayout, layout}
 use Rattle.grammar.specs.Parts.{partAt, textOf, pieceText, itemAt}
 use Rattle.grammar.specs.declared.places.Piece.{Piece}
@@ -28,29 +28,29 @@ use Rattle.grammar.proofs.ItemLaws.{item-at}
 
 -- ---- the number
 
-pub whole-starts : (s : List ℕ) → badWhole s ≡ false → starts s ≡ true
-unfolding badWhole
-whole-starts s b = is-true (starts s) (neither (empty s || not (leb (length s) longestString)) (not (starts s)) b .1)
+pub bad-string-starts : (s : List ℕ) → badString s ≡ false → beginsWithDollar s ≡ true
+unfolding badString
+bad-string-starts s b = is-true (beginsWithDollar s) (neither (empty s || not (leb (length s) longestString)) (not (beginsWithDollar s)) b .1)
 
-pub whole-none : (s : List ℕ) → length s < 1 → badWhole s ≡ true
-unfolding badWhole
-whole-none [] h = refl
-whole-none (c ∷ s) h = absurd (omega arith)
+pub bad-string-none : (s : List ℕ) → length s < 1 → badString s ≡ true
+unfolding badString
+bad-string-none [] h = refl
+bad-string-none (c ∷ s) h = absurd (omega arith)
 
-pub whole-long : (s : List ℕ) → longestString < length s → badWhole s ≡ true
-unfolding badWhole
-whole-long s h = rw (lt-leb (length s) longestString h, or-true)
+pub bad-string-long : (s : List ℕ) → longestString < length s → badString s ≡ true
+unfolding badString
+bad-string-long s h = rw (lt-leb (length s) longestString h, or-true)
 
-pub whole-first : (s : List ℕ) → 1 ≤ length s → length s ≤ longestString → badWhole s ≡ not (eqb (getD s 0 0) dollar)
-unfolding badWhole
-whole-first [] k h = absurd (omega arith)
-whole-first (c ∷ s) k h = rw (le-leb (suc (length s)) longestString h)
+pub bad-string-first : (s : List ℕ) → 1 ≤ length s → length s ≤ longestString → badString s ≡ not (eqb (getD s 0 0) dollar)
+unfolding badString
+bad-string-first [] k h = absurd (omega arith)
+bad-string-first (c ∷ s) k h = rw (le-leb (suc (length s)) longestString h)
 
-pub number-whole : (s : List ℕ) → badWhole s ≡ true → grammarNumber s ≡ 1
+pub number-whole : (s : List ℕ) → badString s ≡ true → grammarNumber s ≡ 1
 unfolding grammarNumber
 number-whole s b = rw b
 
-pub number-pieces : (s : List ℕ) → badWhole s ≡ false → grammarNumber s ≡ firstOf (pieceRows (pieces s))
+pub number-pieces : (s : List ℕ) → badString s ≡ false → grammarNumber s ≡ firstOf (pieceRows (pieces s))
 unfolding grammarNumber
 number-pieces s b = rw b
 
@@ -59,8 +59,8 @@ pub accepted-rows : (s : List ℕ) → grammarNumber s ≡ 0 → Clear (grammarR
 unfolding grammarNumber
 accepted-rows s e = clear (grammarRows s) refl e
 
-pub accepted-starts : (s : List ℕ) → grammarNumber s ≡ 0 → starts s ≡ true
-accepted-starts s e = whole-starts s (accepted-rows s e .0)
+pub accepted-starts : (s : List ℕ) → grammarNumber s ≡ 0 → beginsWithDollar s ≡ true
+accepted-starts s e = bad-string-starts s (accepted-rows s e .0)
 
 -- ---- the layout
 
@@ -82,31 +82,31 @@ layout-number s = go (eqb (grammarNumber s) 0) refl
 
 -- ---- one piece at its span
 
-module _ (s : List ℕ) (h : starts s ≡ true) (w : Piece) where
+module _ (s : List ℕ) (h : beginsWithDollar s ≡ true) (w : Piece) where
   abbrev place : Span
   place = spanOf (placesOf (pieces s)) w
 
   -- nothing stands at the place 0
-  absent : (o : Slot) (v : Span) → Holds s v o → v .at ≡ 0 → o ≡ none
+  absent : (o : OptionalText) (v : Span) → Holds s v o → v .at ≡ 0 → o ≡ none
   absent none v q z = refl
   absent (some t) v q z = absurd (omega (arith, q .0))
 
-  present : (o : Slot) (v : Span) → Holds s v o → (v .at ≡ 0 → ⊥) → o ≡ some (partAt s v)
+  present : (o : OptionalText) (v : Span) → Holds s v o → (v .at ≡ 0 → ⊥) → o ≡ some (partAt s v)
   present none v q z = absurd (z (ap (λ (x : Span). x .at) q))
-  present (some t) v q z = ap {B = Slot} some (sym (q .1))
+  present (some t) v q z = ap {B = OptionalText} some (sym (q .1))
 
-  pub slot-absent : place .at ≡ 0 → slotOf (pieces s) w ≡ none
-  slot-absent z = absent (slotOf (pieces s) w) place (spans s h w) z
+  pub optional-absent : place .at ≡ 0 → pieceIn (pieces s) w ≡ none
+  optional-absent z = absent (pieceIn (pieces s) w) place (spans s h w) z
 
-  pub slot-present : (place .at ≡ 0 → ⊥) → slotOf (pieces s) w ≡ some (partAt s place)
-  slot-present z = present (slotOf (pieces s) w) place (spans s h w) z
+  pub optional-present : (place .at ≡ 0 → ⊥) → pieceIn (pieces s) w ≡ some (partAt s place)
+  optional-present z = present (pieceIn (pieces s) w) place (spans s h w) z
 
-  part-text : (o : Slot) (v : Span) → Holds s v o → partAt s v ≡ textOf o
+  part-text : (o : OptionalText) (v : Span) → Holds s v o → partAt s v ≡ textOf o
   part-text none v q = rw q (part-empty s)
   part-text (some t) v q = q .1
 
-  pub piece-part : partAt s place ≡ textOf (slotOf (pieces s) w)
-  piece-part = part-text (slotOf (pieces s) w) place (spans s h w)
+  pub piece-part : partAt s place ≡ textOf (pieceIn (pieces s) w)
+  piece-part = part-text (pieceIn (pieces s) w) place (spans s h w)
 
 -- ---- the parts
 
@@ -122,7 +122,7 @@ unfolding layout pieceText
 layout-part s w = go (eqb (grammarNumber s) 0) refl
   where
     go : (b : Bool) → eqb (grammarNumber s) 0 ≡ b
-        → partAt s (spanOf (cond b (acceptedLayout (pieces s)) (refusedLayout (grammarNumber s)) .places) w) ≡ cond b (textOf (slotOf (pieces s) w)) []
+        → partAt s (spanOf (cond b (acceptedLayout (pieces s)) (refusedLayout (grammarNumber s)) .places) w) ≡ cond b (textOf (pieceIn (pieces s) w)) []
     go true e = piece-part s (accepted-starts s (eqb-true (grammarNumber s) 0 e)) w
     go false e = ap (partAt s) (no-span w) ∙ part-empty s
 
@@ -131,16 +131,16 @@ nothing : (k : ℕ) → _≡_ {A = Item} (cut equals (getD (parts comma []) k []
 nothing zero = refl
 nothing (suc k) = refl
 
-slot-item : (o : Slot) (k : ℕ) → cut equals (getD (parts comma (textOf o)) k []) ≡ getD (itemsOf o) k ([], [])
-slot-item none k = nothing k
-slot-item (some s) k = sym (item-at (parts comma s) k)
+optional-item : (o : OptionalText) (k : ℕ) → cut equals (getD (parts comma (textOf o)) k []) ≡ getD (itemsOf o) k ([], [])
+optional-item none k = nothing k
+optional-item (some s) k = sym (item-at (parts comma s) k)
 
 item-text : (s : List ℕ) (k : ℕ) → cut equals (getD (parts comma (pieceText s Params)) k []) ≡ itemAt s k
 unfolding pieceText itemAt
 item-text s k = go (eqb (grammarNumber s) 0)
   where
     go : (b : Bool) → cut equals (getD (parts comma (cond b (textOf (pieces s .params)) [])) k []) ≡ getD (cond b (itemsOf (pieces s .params)) []) k ([], [])
-    go true = slot-item (pieces s .params) k
+    go true = optional-item (pieces s .params) k
     go false = nothing k
 
 pub item-is : (s : List ℕ) (k : ℕ) (params item : List ℕ) → params ≡ pieceText s Params → item ≡ getD (parts comma params) k [] → cut equals item ≡ itemAt s k

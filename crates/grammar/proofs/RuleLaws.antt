@@ -15,14 +15,14 @@ use Rattle.decimal.proofs.NumeralLaws.{digits-limited}
 use Rattle.grammar.specs.Limits.{largestVersion}
 use Rattle.grammar.specs.Pieces.{pieces}
 use Rattle.grammar.specs.Items.{items, itemsOf}
-use Rattle.grammar.specs.Rules.{versionReading, isVersion, ruleOf, starts, breaks}
+use Rattle.grammar.specs.Rules.{versionReading, isVersion, ruleOf, beginsWithDollar, breaks}
 use Rattle.grammar.specs.Layout.{placesOf, spanOf}
 use Rattle.grammar.specs.Parts.{partAt}
 use Rattle.grammar.specs.declared.places.Piece.{Piece}
 use Rattle.grammar.specs.declared.places.Piece.the-variants.{Params}
 use Rattle.grammar.specs.declared.places.Span.{Span}
 use Rattle.grammar.specs.declared.places.Places.{Places}
-use Rattle.grammar.proofs.Reading.{slot-absent, slot-present}
+use Rattle.grammar.proofs.Reading.{optional-absent, optional-present}
 
 pub version-none : (s : List ℕ) → length s < 2 → versionReading s ≡ Malformed
 unfolding versionReading limitedReading numeral isDecimal
@@ -39,19 +39,19 @@ pub version-is : (s : List ℕ) (r : Limited) → r ≡ versionReading s → isV
 unfolding isVersion
 version-is s r e = rw e
 
-module _ (s : List ℕ) (h : starts s ≡ true) (w : Piece) (places : Places) (e : places ≡ placesOf (pieces s)) (v : Span) (q : v ≡ spanOf places w) where
+module _ (s : List ℕ) (h : beginsWithDollar s ≡ true) (w : Piece) (places : Places) (e : places ≡ placesOf (pieces s)) (v : Span) (q : v ≡ spanOf places w) where
   same-place : v ≡ spanOf (placesOf (pieces s)) w
   same-place = q ∙ ap (λ (x : Places). spanOf x w) e
 
   pub keeps-absent : v .at ≡ 0 → breaks (pieces s) w ≡ false
-  keeps-absent z = rw (slot-absent s h w (rw same-place at z))
+  keeps-absent z = rw (optional-absent s h w (rw same-place at z))
 
   pub keeps-present : (v .at ≡ 0 → ⊥) → breaks (pieces s) w ≡ not (ruleOf w (partAt s v))
-  keeps-present z = rw (slot-present s h w (rw same-place at z), same-place)
+  keeps-present z = rw (optional-present s h w (rw same-place at z), same-place)
 
-module _ (s : List ℕ) (h : starts s ≡ true) (places : Places) (e : places ≡ placesOf (pieces s)) where
+module _ (s : List ℕ) (h : beginsWithDollar s ≡ true) (places : Places) (e : places ≡ placesOf (pieces s)) where
   pub items-absent : places .params .at ≡ 0 → length (itemsOf (pieces s .params)) ≡ 0
-  items-absent z = rw (slot-absent s h Params (rw e at z))
+  items-absent z = rw (optional-absent s h Params (rw e at z))
 
   pub items-present : (places .params .at ≡ 0 → ⊥) → length (itemsOf (pieces s .params)) ≡ length (items (partAt s (places .params)))
-  items-present z = rw (slot-present s h Params (rw e at z), e)
+  items-present z = rw (optional-present s h Params (rw e at z), e)

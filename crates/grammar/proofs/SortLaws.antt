@@ -14,7 +14,7 @@ use Rattle.text.proofs.Scanning.{find-from-le}
 use Rattle.text.proofs.Splitting.{from-to, from-past, some-from}
 use Rattle.grammar.specs.Bytes.{dollar, equals}
 use Rattle.grammar.specs.Pieces.{isVersionPiece, belongs, afterFirst, pieces}
-use Rattle.grammar.specs.Rules.{starts}
+use Rattle.grammar.specs.Rules.{beginsWithDollar}
 use Rattle.grammar.specs.Layout.{span, spanFrom, past}
 use Rattle.grammar.specs.SortingSteps.{Stepped, sortedOf}
 use Rattle.grammar.specs.declared.places.Piece.{Piece}
@@ -41,13 +41,13 @@ module _ (s : List ℕ) (w : Piece) (at : ℕ) where
         record { found = rw (q, b); next-is = rw (q, b); left = rw (q, b) }
 
 -- the parts after the first byte
-pub parts-after-first : (s : List ℕ) → starts s ≡ true → partsFrom dollar s 1 ≡ parts dollar (afterFirst s)
+pub parts-after-first : (s : List ℕ) → beginsWithDollar s ≡ true → partsFrom dollar s 1 ≡ parts dollar (afterFirst s)
 unfolding partsFrom
 parts-after-first [] e = absurd (false≢true e)
 parts-after-first (c ∷ s) e = rw (le-leb 1 (suc (length s)) (omega arith))
 
 -- five steps from the first piece on sort the string
-module _ (s : List ℕ) (h : starts s ≡ true) (id version params salt output : Span) (n₁ n₂ n₃ n₄ n₅ : ℕ)
+module _ (s : List ℕ) (h : beginsWithDollar s ≡ true) (id version params salt output : Span) (n₁ n₂ n₃ n₄ n₅ : ℕ)
     (a : Stepped s Id 1 id n₁) (b : Stepped s Version n₁ version n₂) (c : Stepped s Params n₂ params n₃)
     (d : Stepped s Salt n₃ salt n₄) (e : Stepped s Output n₄ output n₅) where
   -- a step from a place whose parts are known

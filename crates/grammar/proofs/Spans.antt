@@ -16,8 +16,8 @@ use Rattle.text.proofs.Lists.{head-tail}
 use Rattle.text.proofs.Scanning.{find-from-le}
 use Rattle.text.proofs.Splitting.{from-step, from-past}
 use Rattle.grammar.specs.Bytes.{dollar}
-use Rattle.grammar.specs.Pieces.{Slot, belongs, afterFirst, pieces, slotOf}
-use Rattle.grammar.specs.Rules.{starts}
+use Rattle.grammar.specs.Pieces.{OptionalText, belongs, afterFirst, pieces, pieceIn}
+use Rattle.grammar.specs.Rules.{beginsWithDollar}
 use Rattle.grammar.specs.Layout.{span, spanFrom, past, placesOf, spanOf}
 use Rattle.grammar.specs.Parts.{partAt}
 use Rattle.grammar.specs.declared.places.Piece.{Piece}
@@ -26,7 +26,7 @@ use Rattle.grammar.specs.declared.places.Span.{Span}
 use Rattle.grammar.proofs.SortLaws.{parts-after-first}
 
 -- a span and a piece that may not be there: the part is the piece, and the place is 0 exactly where it is absent
-abbrev pub Holds : List ℕ → Span → Slot → Type 0
+abbrev pub Holds : List ℕ → Span → OptionalText → Type 0
 Holds s w none = w ≡ span 0 0
 Holds s w (some t) = (0 < w .at) × (partAt s w ≡ t)
 
@@ -70,13 +70,13 @@ first-part s at t l q = go (leb at (length s)) refl
     go false b = let e : _≡_ {A = List (List ℕ)} [] (t ∷ l) = sym (from-past dollar s at (leb-false at (length s) b)) ∙ q in let z : _≡_ {A = ℕ} 0 1 = cc in absurd (omega arith)
 
 -- a piece that may not be there, at a place whose parts are known, and the place of the next
-slot-part : (s : List ℕ) (at : ℕ) (o : Slot) (l : List (List ℕ)) → 0 < at → partsFrom dollar s at ≡ listOf o ++ l
+optional-part : (s : List ℕ) (at : ℕ) (o : OptionalText) (l : List (List ℕ)) → 0 < at → partsFrom dollar s at ≡ listOf o ++ l
     → Holds s (spanFrom at o) o × (0 < past at o) × (partsFrom dollar s (past at o) ≡ l)
-slot-part s at none l z q = (refl, z, q)
-slot-part s at (some t) l z q = let p = first-part s at t l q in ((z, p .0), omega arith, p .1)
+optional-part s at none l z q = (refl, z, q)
+optional-part s at (some t) l z q = let p = first-part s at t l q in ((z, p .0), omega arith, p .1)
 
 -- each span of a string that begins with `$` holds its piece
-pub spans : (s : List ℕ) → starts s ≡ true → (w : Piece) → Holds s (spanOf (placesOf (pieces s)) w) (slotOf (pieces s) w)
+pub spans : (s : List ℕ) → beginsWithDollar s ≡ true → (w : Piece) → Holds s (spanOf (placesOf (pieces s)) w) (pieceIn (pieces s) w)
 unfolding pieces
 spans s h w = pick w
   where
@@ -85,12 +85,12 @@ spans s h w = pick w
 
     step : (f : Piece) (at : ℕ) (l : List (List ℕ)) → 0 < at → partsFrom dollar s at ≡ l
         → Holds s (spanFrom at (headIf (belongs f) l)) (headIf (belongs f) l) × (0 < past at (headIf (belongs f) l)) × (partsFrom dollar s (past at (headIf (belongs f) l)) ≡ tailIf (belongs f) l)
-    step f at l z q = slot-part s at (headIf (belongs f) l) (tailIf (belongs f) l) z (q ∙ sym (head-tail (belongs f) l))
+    step f at l z q = optional-part s at (headIf (belongs f) l) (tailIf (belongs f) l) z (q ∙ sym (head-tail (belongs f) l))
 
     id : Holds s (spanFrom 1 (some (p .0))) (some (p .0)) × (0 < past 1 (some (p .0))) × (partsFrom dollar s (past 1 (some (p .0))) ≡ p .1)
-    id = slot-part s 1 (some (p .0)) (p .1) (omega arith) (parts-after-first s h)
+    id = optional-part s 1 (some (p .0)) (p .1) (omega arith) (parts-after-first s h)
 
-    pick : (w : Piece) → Holds s (spanOf (placesOf (pieces s)) w) (slotOf (pieces s) w)
+    pick : (w : Piece) → Holds s (spanOf (placesOf (pieces s)) w) (pieceIn (pieces s) w)
     pick Id = id .0
     pick Version = step Version _ _ (id .1) (id .2) .0
     pick Params = let v = step Version _ _ (id .1) (id .2) in step Params _ _ (v .1) (v .2) .0

@@ -10,9 +10,9 @@ use Rattle.text.specs.Text.{text, has, all, split, join, Frees, Fits, listOf}
 use Rattle.text.specs.Rows.{firstOf}
 use Rattle.grammar.specs.Bytes.{dollar, comma, equals}
 use Rattle.grammar.specs.Limits.{longestName, longestValue, longestOutput, mostItems, longestString}
-use Rattle.grammar.specs.Pieces.{Pieces, belongs, pieces, slotOf, afterId, string}
+use Rattle.grammar.specs.Pieces.{Pieces, belongs, pieces, pieceIn, afterId, string}
 use Rattle.grammar.specs.Items.{Item, items, itemsOf, paramsText}
-use Rattle.grammar.specs.Rules.{isItem, starts, pieceRows, grammarNumber}
+use Rattle.grammar.specs.Rules.{isItem, beginsWithDollar, pieceRows, grammarNumber}
 use Rattle.grammar.specs.Layout.{placesOf, spanOf}
 use Rattle.grammar.specs.Parts.{partAt, textOf}
 use Rattle.grammar.specs.declared.places.Piece.{Piece}
@@ -46,7 +46,7 @@ longest =
 
 pub record PieceClaims : Type 0 where
   -- joining the pieces with `$` gives the string back
-  pub string-pieces : (s : List ℕ) → starts s ≡ true → string (pieces s) ≡ s
+  pub string-pieces : (s : List ℕ) → beginsWithDollar s ≡ true → string (pieces s) ≡ s
   -- splitting joined parts without the separator gives the parts back
   pub split-join : (d : ℕ) (p : List ℕ) (ps : List (List ℕ)) → has d p ≡ false → Frees d ps → split d (join d p ps) ≡ (p, ps)
   -- pieces that sort as they stand are the pieces of their string
@@ -55,9 +55,9 @@ pub record PieceClaims : Type 0 where
   pub params-items : (s : List ℕ) → all isItem (items s) ≡ true → paramsText (items s) ≡ some s
   pub items-params : (is : List Item) → all isItem is ≡ true → itemsOf (paramsText is) ≡ is
   -- the part at a piece's place and length is the piece
-  pub piece-part : (s : List ℕ) → starts s ≡ true → (w : Piece) → partAt s (spanOf (placesOf (pieces s)) w) ≡ textOf (slotOf (pieces s) w)
+  pub piece-part : (s : List ℕ) → beginsWithDollar s ≡ true → (w : Piece) → partAt s (spanOf (placesOf (pieces s)) w) ≡ textOf (pieceIn (pieces s) w)
   -- a piece that is there is never empty
-  pub never-empty : (s : List ℕ) → grammarNumber s ≡ 0 → (w : Piece) (t : List ℕ) → slotOf (pieces s) w ≡ some t → 0 < length t
+  pub never-empty : (s : List ℕ) → grammarNumber s ≡ 0 → (w : Piece) (t : List ℕ) → pieceIn (pieces s) w ≡ some t → 0 < length t
   -- pieces that keep the rules of rows 2 to 7 make at most 2,896 bytes, without row 1
   pub at-most : (p : Pieces) → firstOf (pieceRows p) ≡ 0 → length (string p) ≤ longestString
   -- which is the sum of the pieces' limits, each with its `$`; the version has `v=` and 10 digits, the items 15 commas

@@ -5,7 +5,7 @@ use mathlib.Core.List.{List, [], _∷_, _++_, map}
 use mathlib.Core.Option.{none, some}
 use Rattle.text.specs.Text.{parts, partsFrom, join, cut}
 use Rattle.grammar.specs.Bytes.{comma, equals}
-use Rattle.grammar.specs.Pieces.{Slot}
+use Rattle.grammar.specs.Pieces.{OptionalText}
 
 -- 01's item: its name and its value
 abbrev pub Item : Type 0
@@ -19,7 +19,7 @@ items s = map (cut equals) (parts comma s)
 abbrev pub itemsFrom : List ℕ → ℕ → List Item
 itemsFrom s at = map (cut equals) (partsFrom comma s at)
 
-abbrev pub itemsOf : Slot → List Item
+abbrev pub itemsOf : OptionalText → List Item
 itemsOf none = []
 itemsOf (some s) = items s
 
@@ -27,6 +27,6 @@ abbrev pub itemText : Item → List ℕ
 itemText i = i .0 ++ equals ∷ i .1
 
 -- the parameter piece of items; no piece where there is none
-abbrev pub paramsText : List Item → Slot
+abbrev pub paramsText : List Item → OptionalText
 paramsText [] = none
 paramsText (i ∷ is) = some (join comma (itemText i) (map itemText is))

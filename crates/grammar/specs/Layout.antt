@@ -7,7 +7,7 @@ use mathlib.Core.Option.{none, some}
 use lib.Dec.{eqb}
 use lib.ListN.{length}
 use Rattle.text.specs.declared.units.Chars.{Chars}
-use Rattle.grammar.specs.Pieces.{Slot, Pieces, pieces}
+use Rattle.grammar.specs.Pieces.{OptionalText, Pieces, pieces}
 use Rattle.grammar.specs.Items.{itemsOf}
 use Rattle.grammar.specs.Rules.{grammarNumber}
 use Rattle.grammar.specs.declared.places.Piece.{Piece}
@@ -23,12 +23,12 @@ abbrev pub span : ℕ → ℕ → Span
 span at len = record { at = at; len = chars len }
 
 -- the span of a piece that would begin at a place: 0 and 0 for an absent one
-abbrev pub spanFrom : ℕ → Slot → Span
+abbrev pub spanFrom : ℕ → OptionalText → Span
 spanFrom at none = span 0 0
 spanFrom at (some s) = span at (length s)
 
 -- where the next piece begins, past the `$` that ends this one
-abbrev pub past : ℕ → Slot → ℕ
+abbrev pub past : ℕ → OptionalText → ℕ
 past at none = at
 past at (some s) = at + length s + 1
 

@@ -8,7 +8,7 @@ use mathlib.Core.Option.{none, some}
 use lib.Dec.{eqb}
 use lib.ListN.{length, take, drop, getD}
 use Rattle.text.specs.Place.{hasRoom}
-use Rattle.grammar.specs.Pieces.{Slot, pieces, slotOf}
+use Rattle.grammar.specs.Pieces.{OptionalText, pieces, pieceIn}
 use Rattle.grammar.specs.Items.{Item, itemsOf}
 use Rattle.grammar.specs.Rules.{grammarNumber}
 use Rattle.grammar.specs.declared.places.Piece.{Piece}
@@ -18,18 +18,18 @@ use Rattle.grammar.specs.declared.places.Span.{Span}
 unfoldable pub partAt : List ℕ → Span → List ℕ
 partAt s w = cond (hasRoom (length s) (w .at) (w .len .0)) (take (w .len .0) (drop (w .at) s)) []
 
-abbrev pub isAccepted : List ℕ → Bool
-isAccepted s = eqb (grammarNumber s) 0
+abbrev pub isWellFormed : List ℕ → Bool
+isWellFormed s = eqb (grammarNumber s) 0
 
-abbrev pub textOf : Slot → List ℕ
+abbrev pub textOf : OptionalText → List ℕ
 textOf none = []
 textOf (some s) = s
 
 unfoldable pub pieceText : List ℕ → Piece → List ℕ
-pieceText s w = cond (isAccepted s) (textOf (slotOf (pieces s) w)) []
+pieceText s w = cond (isWellFormed s) (textOf (pieceIn (pieces s) w)) []
 
 abbrev pub itemsIn : List ℕ → List Item
-itemsIn s = cond (isAccepted s) (itemsOf (pieces s .params)) []
+itemsIn s = cond (isWellFormed s) (itemsOf (pieces s .params)) []
 
 -- the item at an index from 0
 unfoldable pub itemAt : List ℕ → ℕ → Item

@@ -11,16 +11,16 @@ use Rattle.grammar.specs.declared.places.Piece.{Piece}
 use Rattle.grammar.specs.declared.places.Piece.the-variants.{Id, Version, Params, Salt, Output}
 
 -- a text that may not be there
-abbrev pub Slot : Type 0
-Slot = Option (List ℕ)
+abbrev pub OptionalText : Type 0
+OptionalText = Option (List ℕ)
 
 -- `more` are the pieces past the output
 pub record Pieces : Type 0 where
   pub id : List ℕ
-  pub version : Slot
-  pub params : Slot
-  pub salt : Slot
-  pub output : Slot
+  pub version : OptionalText
+  pub params : OptionalText
+  pub salt : OptionalText
+  pub output : OptionalText
   pub more : List (List ℕ)
 
 -- begins with `v=`
@@ -65,12 +65,12 @@ afterFirst (c ∷ s) = s
 unfoldable pub pieces : List ℕ → Pieces
 pieces s = sort (split dollar (afterFirst s))
 
-abbrev pub slotOf : Pieces → Piece → Slot
-slotOf p Id = some (p .id)
-slotOf p Version = p .version
-slotOf p Params = p .params
-slotOf p Salt = p .salt
-slotOf p Output = p .output
+abbrev pub pieceIn : Pieces → Piece → OptionalText
+pieceIn p Id = some (p .id)
+pieceIn p Version = p .version
+pieceIn p Params = p .params
+pieceIn p Salt = p .salt
+pieceIn p Output = p .output
 
 -- the pieces after the id, in order
 abbrev pub afterId : Pieces → List (List ℕ)

@@ -5,14 +5,14 @@ use mathlib.Core.Bool.{Bool, false, not, _&&_, _||_}
 use mathlib.Core.List.{List, [], _∷_}
 use lib.Dec.{leb, eqb}
 use lib.ListN.{length, drop}
-use Rattle.text.specs.Text.{text, within, all, same, empty, broken}
+use Rattle.text.specs.Text.{text, within, all, same, empty, violates}
 use Rattle.text.specs.Rows.{Row, row, firstOf}
 use Rattle.b64.specs.B64.{canonical}
 use Rattle.decimal.specs.Numerals.{limitedReading, limitedNumber}
 use Rattle.decimal.specs.declared.reader.Limited.{Limited}
 use Rattle.grammar.specs.Bytes.{dollar, isText}
 use Rattle.grammar.specs.Limits.{longestName, longestValue, longestOutput, mostItems, largestVersion, longestString}
-use Rattle.grammar.specs.Pieces.{Pieces, pieces, slotOf}
+use Rattle.grammar.specs.Pieces.{Pieces, pieces, pieceIn}
 use Rattle.grammar.specs.Items.{Item, items}
 use Rattle.grammar.specs.declared.classes.Class.the-variants.{Name, Value}
 use Rattle.grammar.specs.declared.places.Piece.{Piece}
@@ -54,19 +54,19 @@ ruleOf Salt s = isValue s
 ruleOf Output s = isOutput s
 
 -- the first byte is `$`
-abbrev pub starts : List ℕ → Bool
-starts [] = false
-starts (c ∷ s) = eqb c dollar
+abbrev pub beginsWithDollar : List ℕ → Bool
+beginsWithDollar [] = false
+beginsWithDollar (c ∷ s) = eqb c dollar
 
 -- ---- rows
 
 -- no bytes, more than 2,896, or first byte not `$`
-unfoldable pub badWhole : List ℕ → Bool
-badWhole s = empty s || not (leb (length s) longestString) || not (starts s)
+unfoldable pub badString : List ℕ → Bool
+badString s = empty s || not (leb (length s) longestString) || not (beginsWithDollar s)
 
 -- a piece is there and breaks its rule
 abbrev pub breaks : Pieces → Piece → Bool
-breaks p w = broken (ruleOf w) (slotOf p w)
+breaks p w = violates (ruleOf w) (pieceIn p w)
 
 abbrev pub pieceRows : Pieces → List Row
 pieceRows p =
@@ -79,7 +79,7 @@ pieceRows p =
     ∷ []
 
 abbrev pub grammarRows : List ℕ → List Row
-grammarRows s = row 1 (badWhole s) ∷ pieceRows (pieces s)
+grammarRows s = row 1 (badString s) ∷ pieceRows (pieces s)
 
 -- the grammar reader's number
 unfoldable pub grammarNumber : List ℕ → ℕ

@@ -6,20 +6,20 @@ use mathlib.Core.Bool.{not}
 use mathlib.Core.List.{List}
 use Rattle.text.specs.Text.{partsFrom, empty, headIf, tailIf}
 use Rattle.grammar.specs.Bytes.{dollar}
-use Rattle.grammar.specs.Pieces.{Slot, Pieces, belongs}
+use Rattle.grammar.specs.Pieces.{OptionalText, Pieces, belongs}
 use Rattle.grammar.specs.Layout.{spanFrom, past, placesOf}
 use Rattle.grammar.specs.declared.places.Piece.{Piece}
 use Rattle.grammar.specs.declared.places.Span.{Span}
 use Rattle.grammar.specs.declared.sorting.Sorted.{Sorted}
 
 -- the piece asked for, if it is the next
-abbrev pub nextSlot : List ℕ → Piece → ℕ → Slot
-nextSlot s w at = headIf (belongs w) (partsFrom dollar s at)
+abbrev pub nextPiece : List ℕ → Piece → ℕ → OptionalText
+nextPiece s w at = headIf (belongs w) (partsFrom dollar s at)
 
 -- a step of the sorting from a place: the piece asked for, and where the pieces left begin
 pub record Stepped (s : List ℕ) (w : Piece) (at : ℕ) (span : Span) (next : ℕ) : Type 0 where
-  pub found : span ≡ spanFrom at (nextSlot s w at)
-  pub next-is : next ≡ past at (nextSlot s w at)
+  pub found : span ≡ spanFrom at (nextPiece s w at)
+  pub next-is : next ≡ past at (nextPiece s w at)
   pub left : partsFrom dollar s next ≡ tailIf (belongs w) (partsFrom dollar s at)
 
 abbrev pub sortedOf : Pieces → Sorted

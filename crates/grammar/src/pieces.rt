@@ -2,7 +2,7 @@
 use crate::numbers::BAD_STRING;
 use crate::places::Places;
 use crate::places::Span;
-use crate::rules::bad_whole;
+use crate::rules::bad_string;
 use crate::rules::items_of;
 use crate::rules::number_of;
 use crate::sorting::sort;
@@ -41,7 +41,7 @@ fn refused(number: u8) -> Layout
 pub fn read(s: &[u8]) -> Layout
     ensures { λ r. ⌜ r ≡ layout (now (s .entry)) ⌝ }
 {
-    if bad_whole(s) {
+    if bad_string(s) {
         return refused(BAD_STRING);
     }
     let sorted = sort(s);

@@ -27,13 +27,13 @@ ghost use lib.ListN.{length};
 ghost use Rattle.text.specs.Rows.{firstOf};
 ghost use Rattle.grammar.specs.Pieces.{pieces};
 ghost use Rattle.grammar.specs.Items.{itemsOf};
-ghost use Rattle.grammar.specs.Rules.{isVersion, isOutput, ruleOf, starts, badWhole, breaks, pieceRows};
+ghost use Rattle.grammar.specs.Rules.{isVersion, isOutput, ruleOf, beginsWithDollar, badString, breaks, pieceRows};
 ghost use Rattle.grammar.specs.Layout.{placesOf};
 ghost use Rattle.grammar.specs.SortingSteps.{sortedOf};
 
 // Row 1.
-pub fn bad_whole(s: &[u8]) -> bool
-    ensures { λ r. ⌜ r ≡ badWhole (now (s .entry)) ⌝ }
+pub fn bad_string(s: &[u8]) -> bool
+    ensures { λ r. ⌜ r ≡ badString (now (s .entry)) ⌝ }
 {
     if s.len() < 1 {
         return true;
@@ -81,7 +81,7 @@ fn keeps_rule(text: &[u8], which: Piece) -> bool
 
 // Rows 2 to 6: whether a piece that is there breaks its rule.
 fn breaks(s: &[u8], places: Places, which: Piece) -> bool
-    requires { ⌜ (starts (now s) ≡ true) × (places ≡ placesOf (pieces (now s))) ⌝ }
+    requires { ⌜ (beginsWithDollar (now s) ≡ true) × (places ≡ placesOf (pieces (now s))) ⌝ }
     ensures { λ r. ⌜ r ≡ breaks (pieces (now (s .entry))) which ⌝ }
 {
     let span = span_of(places, which);
@@ -93,7 +93,7 @@ fn breaks(s: &[u8], places: Places, which: Piece) -> bool
 
 // Rows 2 to 7: the first that applies.
 pub fn number_of(s: &[u8], sorted: Sorted) -> u8
-    requires { ⌜ (starts (now s) ≡ true) × (sorted ≡ sortedOf (pieces (now s))) ⌝ }
+    requires { ⌜ (beginsWithDollar (now s) ≡ true) × (sorted ≡ sortedOf (pieces (now s))) ⌝ }
     ensures { λ r. ⌜ r ≡ firstOf (pieceRows (pieces (now (s .entry)))) ⌝ }
 {
     let places = sorted.places;
@@ -117,7 +117,7 @@ pub fn number_of(s: &[u8], sorted: Sorted) -> u8
 
 // The number of items; 0 where there is no parameter piece.
 pub fn items_of(s: &[u8], places: Places) -> usize
-    requires { ⌜ (starts (now s) ≡ true) × (places ≡ placesOf (pieces (now s))) ⌝ }
+    requires { ⌜ (beginsWithDollar (now s) ≡ true) × (places ≡ placesOf (pieces (now s))) ⌝ }
     ensures { λ r. ⌜ r ≡ length (itemsOf (pieces (now (s .entry)) .params)) ⌝ }
 {
     let span = places.params;

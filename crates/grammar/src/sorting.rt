@@ -7,7 +7,7 @@ use text::units::Chars;
 ghost use mathlib.Core.Path.{_≡_};
 ghost use mathlib.Core.Bool.{true};
 ghost use Rattle.grammar.specs.Pieces.{isVersionPiece, belongs, pieces};
-ghost use Rattle.grammar.specs.Rules.{starts};
+ghost use Rattle.grammar.specs.Rules.{beginsWithDollar};
 ghost use Rattle.grammar.specs.SortingSteps.{Stepped, sortedOf};
 
 // `more`: pieces remain after the output.
@@ -77,7 +77,7 @@ fn take_piece(s: &[u8], at: usize, which: Piece) -> Step
 }
 
 pub fn sort(s: &[u8]) -> Sorted
-    requires { ⌜ starts (now s) ≡ true ⌝ }
+    requires { ⌜ beginsWithDollar (now s) ≡ true ⌝ }
     ensures { λ r. ⌜ r ≡ sortedOf (pieces (now (s .entry))) ⌝ }
 {
     let a = take_piece(s, 1, Piece::Id);

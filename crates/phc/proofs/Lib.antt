@@ -1,5 +1,5 @@
 pub mod CodeLaws
 pub mod SizeLaws
 pub mod RecordLaws
-pub mod WholeLaws
+pub mod RecordAllLaws
 pub mod Claims

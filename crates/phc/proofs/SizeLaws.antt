@@ -38,7 +38,7 @@ longer tag (b ∷ bs) = omega (arith, length-encode (b ∷ bs))
 
 chosen-small : (f : FieldSet) → Allows (here editionTwo f) f → (c : ByteString) → length (chosen c f) ≤ room
 chosen-small f h Keyid = omega (arith, longer 7 (f .keyid), formatted-length editionTwo f, most-room f h)
-chosen-small f h Data = omega (arith, longer 6 (f .ad), formatted-length editionTwo f, most-room f h)
+chosen-small f h Data = omega (arith, longer 6 (f .«data»), formatted-length editionTwo f, most-room f h)
 chosen-small f h Salt = omega (arith, longer 1 (f .salt), formatted-length editionTwo f, most-room f h)
 chosen-small f h Output = omega (arith, longer 1 (f .output), formatted-length editionTwo f, most-room f h)
 

@@ -51,28 +51,28 @@ recorded s buffer = let r = reading editionTwo s in putAfter (r .number) buffer 
 
 -- keyid, data, salt and output
 abbrev pub countBytes : Contents → List ℕ
-countBytes c = words (c .keyid .0) (c .ad .0) (c .salt .0) (c .output .0)
+countBytes c = words (c .keyid .0) (c .«data» .0) (c .salt .0) (c .output .0)
 
-abbrev pub wholeLength : ℕ
-wholeLength = 36
+abbrev pub recordAllLength : ℕ
+recordAllLength = 36
 
 -- a record with the counts after it, and the four byte strings one after the other
-pub record Whole : Type 0 where
+pub record AllOutcome : Type 0 where
   pub number : ℕ
   pub «record» : List ℕ
   pub buffer : List ℕ
 
-abbrev pub whole : ℕ → List ℕ → List ℕ → Whole
-whole number «record» buffer = record { number = number; «record» = «record»; buffer = buffer }
+abbrev pub allOutcome : ℕ → List ℕ → List ℕ → AllOutcome
+allOutcome number «record» buffer = record { number = number; «record» = «record»; buffer = buffer }
 
 -- the reader's number, then 17 where the record or the byte strings don't fit; and both are written, or neither
-unfoldable pub recordedWhole : List ℕ → List ℕ → List ℕ → Whole
-recordedWhole s «record» buffer =
+unfoldable pub recordedAll : List ℕ → List ℕ → List ℕ → AllOutcome
+recordedAll s «record» buffer =
     let c = counted (reading editionTwo s) (fieldsOf editionTwo s) in
     let text = recordBytes (c .reading) ++ countBytes c in
     let fits = putAfter (c .reading .number) «record» 0 text in
     let bytes = putAfter (fits .number) buffer 0 (joinedBytes (fieldsOf editionTwo s)) in
-    whole (bytes .number) (putAfter (bytes .number) «record» 0 text .buffer) (bytes .buffer)
+    allOutcome (bytes .number) (putAfter (bytes .number) «record» 0 text .buffer) (bytes .buffer)
 
 -- ---- one answer
 

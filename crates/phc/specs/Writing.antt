@@ -13,5 +13,5 @@ abbrev pub versionField : ℕ → ℕ → Version
 versionField flag version = cond (eqb flag 0) Absent (cond (eqb flag 1) (Number version) (Number 0))
 
 abbrev pub handed : ℕ → ℕ → ℕ → ℕ → ℕ → ℕ → List ℕ → List ℕ → List ℕ → List ℕ → FieldSet
-handed id flag version m t p keyid ad salt output =
-    fieldSet (record { id = id; version = versionField flag version; m = m; t = t; p = p }) keyid ad salt output
+handed id flag version m t p keyid «data» salt output =
+    fieldSet (record { id = id; version = versionField flag version; m = m; t = t; p = p }) keyid «data» salt output

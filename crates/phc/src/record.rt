@@ -9,7 +9,7 @@ ghost use mathlib.Core.Path.{_≡_};
 ghost use mathlib.Core.List.{_++_};
 ghost use lib.ListN.{length};
 ghost use Rattle.text.specs.Place.{over};
-ghost use Rattle.phc.specs.Records.{versionFlag, versionNumber, words, headBytes, recordBytes, countBytes, recordLength, wholeLength};
+ghost use Rattle.phc.specs.Records.{versionFlag, versionNumber, words, headBytes, recordBytes, countBytes, recordLength, recordAllLength};
 
 // The bytes of a record, and of one with the counts after it.
 pub const RECORD_LEN: usize = 20;
@@ -96,14 +96,14 @@ pub fn put_record(r: Reading, out: &mut [u8])
 }
 
 // The record and the counts after it.
-pub fn put_whole(c: Contents, out: &mut [u8])
-    requires { ⌜ wholeLength ≤ length (now out) ⌝ }
+pub fn put_record_all(c: Contents, out: &mut [u8])
+    requires { ⌜ recordAllLength ≤ length (now out) ⌝ }
     ensures { λ _. ⌜ now (out .exit) ≡ over (now (out .entry)) 0 (recordBytes (c .reading) ++ countBytes c) ⌝ }
 {
     let r = c.reading;
     put_record(r, out);
     write_text(
-        &four_words(c.keyid.0, c.ad.0, c.salt.0, c.output.0),
+        &four_words(c.keyid.0, c.data.0, c.salt.0, c.output.0),
         out,
         RECORD_LEN,
     );

@@ -15,7 +15,7 @@ here e f = profileOf e (f .numbers .id)
 pub allowed : (e : List Profile) (f : FieldSet) → refusal e f ≡ 0 → Allows (here e f) f
 unfolding refusal
 allowed e f z =
-    let (r8, (r9, (m, (t, (p, (lanes, (keyid, (ad, (salt, (output, (order, u))))))))))) = clear (writerRows e f) refl z in
+    let (r8, (r9, (m, (t, (p, (lanes, (keyid, («data», (salt, (output, (order, u))))))))))) = clear (writerRows e f) refl z in
     let n = f .numbers in
     let r = here e f in
     record {
@@ -26,7 +26,7 @@ allowed e f z =
       p = is-true (inRange (r .p) (n .p)) p;
       lanes = lanes;
       keyid = is-true (bytesAllowed (r .keyid) (f .keyid)) keyid;
-      ad = is-true (bytesAllowed (r .ad) (f .ad)) ad;
+      «data» = is-true (bytesAllowed (r .«data») (f .«data»)) «data»;
       salt = is-true (bytesAllowed (r .salt) (f .salt)) salt;
       output = is-true (bytesAllowed (r .output) (f .output)) output;
       order = order;
@@ -48,7 +48,7 @@ allowed-zero e f h =
               not-of-true (h .p),
               (
                 h .lanes,
-                (not-of-true (h .keyid), (not-of-true (h .ad), (not-of-true (h .salt), (not-of-true (h .output), (h .order, tt))))),
+                (not-of-true (h .keyid), (not-of-true (h .«data»), (not-of-true (h .salt), (not-of-true (h .output), (h .order, tt))))),
               ),
             ),
           ),

@@ -99,10 +99,10 @@ module _ (e : List Profile) (s u : List ℕ) (a : answer e s ≡ 0) (b : answer 
   same-carried =
       let n = sym (reading-fields e s a) ∙ h .fields ∙ reading-fields e u b in
       let keyid = same-bytes Keyid in
-      let ad = same-bytes Data in
+      let «data» = same-bytes Data in
       let salt = same-bytes Salt in
       let output = same-bytes Output in
-      λ i. record { numbers = n i; keyid = keyid i; ad = ad i; salt = salt i; output = output i }
+      λ i. record { numbers = n i; keyid = keyid i; «data» = «data» i; salt = salt i; output = output i }
 
 -- a buffer with the room
 abbrev wide : List ℕ

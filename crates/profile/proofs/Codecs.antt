@@ -9,7 +9,7 @@ use native.Mathlib.Omega.{arith}
 use lib.Dec.{leb, eqb}
 use lib.ListN.{length}
 use borrow.Author.Tests.{eqb-true, eq-eqb, leb-true}
-use Rattle.text.specs.Text.{within, all, empty, broken, isByte}
+use Rattle.text.specs.Text.{within, all, empty, violates, isByte}
 use Rattle.text.proofs.Tests.{both, and-true, not-of-true, is-true, is-false, from-within, to-within}
 use Rattle.text.proofs.Lists.{all-append, all-has}
 use Rattle.b64.specs.Lengths.{charsOf}
@@ -23,14 +23,14 @@ use Rattle.decimal.proofs.DecimalLaws.{by-tens, digits-small, digits-step, leng
 use Rattle.decimal.proofs.NumeralLaws.{limited-digits, digits-limited}
 use Rattle.grammar.specs.Bytes.{isValueByte, isText}
 use Rattle.grammar.specs.Limits.{longestValue, longestOutput, largestVersion}
-use Rattle.grammar.specs.Pieces.{Slot, isVersionPiece}
+use Rattle.grammar.specs.Pieces.{OptionalText, isVersionPiece}
 use Rattle.grammar.specs.Rules.{isValue, versionReading, isVersion, isOutput}
 use Rattle.grammar.proofs.ValueBytes.{canonical-values}
 use Rattle.table.specs.Limits.{inRange, versionAllowed, largest32, misplacedNumber}
 use Rattle.table.specs.declared.limits.NumberRule.{NumberRule}
-use Rattle.table.specs.declared.limits.NumberRule.the-variants.{Needed, Omitted, Fixed}
+use Rattle.table.specs.declared.limits.NumberRule.the-variants.{Required, Defaulted, Constant}
 use Rattle.table.specs.declared.limits.BytesRule.{BytesRule}
-use Rattle.table.specs.declared.limits.BytesRule.the-variants.{Sized, Barred}
+use Rattle.table.specs.declared.limits.BytesRule.the-variants.{Sized, Forbidden}
 use Rattle.table.specs.declared.version.Version.{Version}
 use Rattle.table.specs.declared.version.Version.the-variants.{Absent, Number}
 use Rattle.profile.specs.Fields.{isNumber, readNumber, writtenOut, writeNumber, misplacedBytes, isSized, isBytes, readBytes, writeBytes, readVersion, writeVersion}
@@ -75,31 +75,31 @@ digits-good n h =
 
 -- ---- numbers
 
-pub number-back : (r : NumberRule) (s : Slot) → soundNumber r ≡ true
-    → misplacedNumber r s ≡ false → broken (isNumber r) s ≡ false → writtenOut r s ≡ false
+pub number-back : (r : NumberRule) (s : OptionalText) → soundNumber r ≡ true
+    → misplacedNumber r s ≡ false → violates (isNumber r) s ≡ false → writtenOut r s ≡ false
     → (inRange r (readNumber r s) ≡ true) × (writeNumber r (readNumber r s) ≡ s)
-number-back (Needed low high) none k a b c = absurd (true≢false a)
-number-back (Needed low high) (some t) k a b c =
+number-back (Required low high) none k a b c = absurd (true≢false a)
+number-back (Required low high) (some t) k a b c =
     let q = limited-back low high t (is-true _ b) in
-    (q .0, ap {B = Slot} some (q .1))
-number-back (Omitted low high given) none k a b c =
-    (both (leb high largest32) (within low high given) k .1, rw (eq-eqb given given refl))
-number-back (Omitted low high given) (some t) k a b c =
+    (q .0, ap {B = OptionalText} some (q .1))
+number-back (Defaulted low high default) none k a b c =
+    (both (leb high largest32) (within low high default) k .1, rw (eq-eqb default default refl))
+number-back (Defaulted low high default) (some t) k a b c =
     let q = limited-back low high t (is-true _ b) in
-    (q .0, rw c (ap {B = Slot} some (q .1)))
-number-back (Fixed given) none k a b c = (to-within given given given (omega arith) (omega arith), refl)
-number-back (Fixed given) (some t) k a b c = absurd (true≢false a)
+    (q .0, rw c (ap {B = OptionalText} some (q .1)))
+number-back (Constant value) none k a b c = (to-within value value value (omega arith) (omega arith), refl)
+number-back (Constant value) (some t) k a b c = absurd (true≢false a)
 
 -- what a written slot satisfies
-pub record NumberWritten (r : NumberRule) (n : ℕ) (s : Slot) : Type 0 where
+pub record NumberWritten (r : NumberRule) (n : ℕ) (s : OptionalText) : Type 0 where
   pub placed : misplacedNumber r s ≡ false
-  pub number : broken (isNumber r) s ≡ false
+  pub number : violates (isNumber r) s ≡ false
   pub short : writtenOut r s ≡ false
   pub reads : readNumber r s ≡ n
-  pub good : broken isValue s ≡ false
+  pub good : violates isValue s ≡ false
 
 pub number-forth : (r : NumberRule) (n : ℕ) → soundNumber r ≡ true → inRange r n ≡ true → NumberWritten r n (writeNumber r n)
-number-forth (Needed low high) n k e =
+number-forth (Required low high) n k e =
     let q = limited-forth low high n e in
     let h = leb-true high largest32 k in
     let w = from-within low high n e in
@@ -110,13 +110,13 @@ number-forth (Needed low high) n k e =
       reads = rw q;
       good = not-of-true (digits-good n (omega arith));
     }
-number-forth (Omitted low high given) n k e = go (eqb n given) refl
+number-forth (Defaulted low high default) n k e = go (eqb n default) refl
   where
-    go : (b : Bool) → eqb n given ≡ b → NumberWritten (Omitted low high given) n (cond b none (some (digits n)))
-    go true q = record { placed = refl; number = refl; short = refl; reads = sym (eqb-true n given q); good = refl }
+    go : (b : Bool) → eqb n default ≡ b → NumberWritten (Defaulted low high default) n (cond b none (some (digits n)))
+    go true q = record { placed = refl; number = refl; short = refl; reads = sym (eqb-true n default q); good = refl }
     go false p =
         let q = limited-forth low high n e in
-        let h = leb-true high largest32 (both (leb high largest32) (within low high given) k .0) in
+        let h = leb-true high largest32 (both (leb high largest32) (within low high default) k .0) in
         let w = from-within low high n e in
         record {
           placed = refl;
@@ -125,8 +125,8 @@ number-forth (Omitted low high given) n k e = go (eqb n given) refl
           reads = rw q;
           good = not-of-true (digits-good n (omega arith));
         }
-number-forth (Fixed given) n k e =
-    let w = from-within given given n e in
+number-forth (Constant value) n k e =
+    let w = from-within value value n e in
     record { placed = refl; number = refl; short = refl; reads = omega arith; good = refl }
 
 -- ---- byte strings
@@ -136,9 +136,9 @@ filled : (t bs : List ℕ) → empty t ≡ false → encode bs ≡ t → (empty 
 unfolding encode
 filled [] bs e q = absurd (true≢false e)
 filled (c ∷ t) [] e q = let z : 0 ≡ suc (length t) = ap length q in absurd (omega arith)
-filled (c ∷ t) (b ∷ bs) e q = (refl, ap {B = Slot} some q)
+filled (c ∷ t) (b ∷ bs) e q = (refl, ap {B = OptionalText} some q)
 
-pub bytes-back : (r : BytesRule) (s : Slot) → broken (λ t. not (empty t)) s ≡ false → broken (isBytes r) s ≡ false
+pub bytes-back : (r : BytesRule) (s : OptionalText) → violates (λ t. not (empty t)) s ≡ false → violates (isBytes r) s ≡ false
     → (bytesAllowed r (readBytes s) ≡ true) × (writeBytes (readBytes s) ≡ s) × (all isByte (readBytes s) ≡ true)
 bytes-back r none v e = (refl, refl, refl)
 bytes-back r (some t) v e =
@@ -151,24 +151,24 @@ some-byte : (most : ℕ) (t : List ℕ) → within 1 most (length t) ≡ true �
 some-byte most [] e = absurd (false≢true e)
 some-byte most (c ∷ t) e = refl
 
-pub value-filled : (s : Slot) → broken isValue s ≡ false → broken (λ t. not (empty t)) s ≡ false
+pub value-filled : (s : OptionalText) → violates isValue s ≡ false → violates (λ t. not (empty t)) s ≡ false
 unfolding isText
 value-filled none e = refl
 value-filled (some t) e = not-of-true (some-byte longestValue t (both (within 1 longestValue (length t)) (all isValueByte t) (is-true (isValue t) e) .0))
 
-pub output-filled : (s : Slot) → broken isOutput s ≡ false → broken (λ t. not (empty t)) s ≡ false
+pub output-filled : (s : OptionalText) → violates isOutput s ≡ false → violates (λ t. not (empty t)) s ≡ false
 unfolding isOutput
 output-filled none e = refl
 output-filled (some t) e = not-of-true (some-byte longestOutput t (both (within 1 longestOutput (length t)) (canonical t) (is-true (isOutput t) e) .0))
 
 -- what a written slot satisfies, where a text may have so many characters
-pub record BytesWritten (most : ℕ) (r : BytesRule) (bs : List ℕ) (s : Slot) : Type 0 where
+pub record BytesWritten (most : ℕ) (r : BytesRule) (bs : List ℕ) (s : OptionalText) : Type 0 where
   pub placed : misplacedBytes r s ≡ false
-  pub bytes : broken (isBytes r) s ≡ false
-  pub sized : broken (isSized r) s ≡ false
+  pub bytes : violates (isBytes r) s ≡ false
+  pub sized : violates (isSized r) s ≡ false
   pub reads : readBytes s ≡ bs
-  pub counted : broken (λ t. within 1 most (length t)) s ≡ false
-  pub text-is : broken canonical s ≡ false
+  pub counted : violates (λ t. within 1 most (length t)) s ≡ false
+  pub text-is : violates canonical s ≡ false
 
 pub bytes-forth : (most : ℕ) (r : BytesRule) (bs : List ℕ) → textWithin most r ≡ true → all isByte bs ≡ true → bytesAllowed r bs ≡ true
     → BytesWritten most r bs (writeBytes bs)
@@ -176,7 +176,7 @@ bytes-forth most r [] k a e = record { placed = go r; bytes = refl; sized = refl
   where
     go : (r : BytesRule) → misplacedBytes r none ≡ false
     go (Sized low high) = refl
-    go Barred = refl
+    go Forbidden = refl
 bytes-forth most (Sized low high) (b ∷ bs) k a e =
     let x = b ∷ bs in
     let d = decode-encode x a in
@@ -194,22 +194,22 @@ bytes-forth most (Sized low high) (b ∷ bs) k a e =
       counted = not-of-true n;
       text-is = not-of-true c;
     }
-bytes-forth most Barred (b ∷ bs) k a e = absurd (false≢true e)
+bytes-forth most Forbidden (b ∷ bs) k a e = absurd (false≢true e)
 
 -- it is a value, or an output, where its limit is theirs
-pub written-value : (s : Slot) → broken (λ t. within 1 longestValue (length t)) s ≡ false → broken canonical s ≡ false → broken isValue s ≡ false
+pub written-value : (s : OptionalText) → violates (λ t. within 1 longestValue (length t)) s ≡ false → violates canonical s ≡ false → violates isValue s ≡ false
 unfolding isText
 written-value none n c = refl
 written-value (some t) n c = not-of-true (and-true (is-true (within 1 longestValue (length t)) n) (canonical-values t (is-true (canonical t) c)))
 
-pub written-output : (s : Slot) → broken (λ t. within 1 longestOutput (length t)) s ≡ false → broken canonical s ≡ false → broken isOutput s ≡ false
+pub written-output : (s : OptionalText) → violates (λ t. within 1 longestOutput (length t)) s ≡ false → violates canonical s ≡ false → violates isOutput s ≡ false
 unfolding isOutput
 written-output none n c = refl
 written-output (some t) n c = not-of-true (and-true (is-true (within 1 longestOutput (length t)) n) (is-true (canonical t) c))
 
 -- ---- the version
 
-pub version-back : (s : Slot) → broken isVersionPiece s ≡ false → broken isVersion s ≡ false → writeVersion (readVersion s) ≡ s
+pub version-back : (s : OptionalText) → violates isVersionPiece s ≡ false → violates isVersion s ≡ false → writeVersion (readVersion s) ≡ s
 unfolding isVersion versionReading
 version-back none p e = refl
 version-back (some []) p e = absurd (true≢false p)
@@ -219,11 +219,11 @@ version-back (some (c ∷ d ∷ t)) p e =
     let v = limited-back 0 largestVersion t (is-true (isVersion (c ∷ d ∷ t)) e) in
     let a = sym (eqb-true c 118 (q .0)) in
     let b = sym (eqb-true d 61 (q .1)) in
-    ap {B = Slot} some (λ i. a i ∷ b i ∷ v .1 i)
+    ap {B = OptionalText} some (λ i. a i ∷ b i ∷ v .1 i)
 
-pub record VersionWritten (v : Version) (s : Slot) : Type 0 where
-  pub piece : broken isVersionPiece s ≡ false
-  pub version : broken isVersion s ≡ false
+pub record VersionWritten (v : Version) (s : OptionalText) : Type 0 where
+  pub piece : violates isVersionPiece s ≡ false
+  pub version : violates isVersion s ≡ false
   pub reads : readVersion s ≡ v
 
 pub version-forth : (vs : List ℕ) (v : Version) → soundVersions vs ≡ true → versionAllowed vs v ≡ true → VersionWritten v (writeVersion v)

@@ -10,44 +10,44 @@ use Rattle.text.specs.Rows.{firstOf}
 use Rattle.decimal.specs.Numerals.{limitedValue}
 use Rattle.grammar.specs.Parts.{partAt}
 use Rattle.grammar.specs.declared.places.Span.{Span}
-use Rattle.table.specs.Limits.{misplacedNumber, leftOut}
+use Rattle.table.specs.Limits.{misplacedNumber, isOmitted}
 use Rattle.table.specs.declared.limits.NumberRule.{NumberRule}
-use Rattle.table.specs.declared.limits.NumberRule.the-variants.{Needed, Fixed}
-use Rattle.table.specs.declared.limits.BytesRule.the-variants.{Barred}
+use Rattle.table.specs.declared.limits.NumberRule.the-variants.{Required, Constant}
+use Rattle.table.specs.declared.limits.BytesRule.the-variants.{Forbidden}
 use Rattle.profile.specs.Reader.{numberRow}
 use Rattle.profile.specs.Fields.{numberReading, readNumber, writtenOut, misplacedBytes}
-use Rattle.profile.specs.ReaderSteps.{slotIn}
-use Rattle.profile.proofs.SlotLaws.{slot-some}
+use Rattle.profile.specs.ReaderSteps.{spanText}
+use Rattle.profile.proofs.OptionalTextLaws.{optional-some}
 
 module _ (s : List ℕ) (w : Span) where
   -- ---- numbers
 
-  pub missing-needed : (low high : ℕ) → eqb (w .at) 0 ≡ misplacedNumber (Needed low high) (slotIn s w)
-  missing-needed low high = go (eqb (w .at) 0)
+  pub missing-required : (low high : ℕ) → eqb (w .at) 0 ≡ misplacedNumber (Required low high) (spanText s w)
+  missing-required low high = go (eqb (w .at) 0)
     where
-      go : (b : Bool) → b ≡ misplacedNumber (Needed low high) (cond b none (some (partAt s w)))
+      go : (b : Bool) → b ≡ misplacedNumber (Required low high) (cond b none (some (partAt s w)))
       go true = refl
       go false = refl
 
-  pub there-fixed : (given : ℕ) → not (eqb (w .at) 0) ≡ misplacedNumber (Fixed given) (slotIn s w)
-  there-fixed given = go (eqb (w .at) 0)
+  pub there-constant : (value : ℕ) → not (eqb (w .at) 0) ≡ misplacedNumber (Constant value) (spanText s w)
+  there-constant value = go (eqb (w .at) 0)
     where
-      go : (b : Bool) → not b ≡ misplacedNumber (Fixed given) (cond b none (some (partAt s w)))
+      go : (b : Bool) → not b ≡ misplacedNumber (Constant value) (cond b none (some (partAt s w)))
       go true = refl
       go false = refl
 
   pub number-there : (r : NumberRule) → (w .at ≡ 0 → ⊥)
-      → (firstOf (numberRow r (some (partAt s w))) ≡ firstOf (numberRow r (slotIn s w))) × (limitedValue (numberReading r (partAt s w)) ≡ readNumber r (slotIn s w))
-  number-there r z = rw (slot-some s w z) (refl, refl)
+      → (firstOf (numberRow r (some (partAt s w))) ≡ firstOf (numberRow r (spanText s w))) × (limitedValue (numberReading r (partAt s w)) ≡ readNumber r (spanText s w))
+  number-there r z = rw (optional-some s w z) (refl, refl)
 
-  pub left-out-there : (r : NumberRule) (value : ℕ) → (w .at ≡ 0 → ⊥) → value ≡ readNumber r (slotIn s w) → leftOut r value ≡ writtenOut r (slotIn s w)
-  left-out-there r value z e = rw (slot-some s w z) (ap (leftOut r) (rw (slot-some s w z) at e))
+  pub left-out-there : (r : NumberRule) (value : ℕ) → (w .at ≡ 0 → ⊥) → value ≡ readNumber r (spanText s w) → isOmitted r value ≡ writtenOut r (spanText s w)
+  left-out-there r value z e = rw (optional-some s w z) (ap (isOmitted r) (rw (optional-some s w z) at e))
 
   -- ---- byte strings
 
-  pub there-barred : not (eqb (w .at) 0) ≡ misplacedBytes Barred (slotIn s w)
-  there-barred = go (eqb (w .at) 0)
+  pub there-forbidden : not (eqb (w .at) 0) ≡ misplacedBytes Forbidden (spanText s w)
+  there-forbidden = go (eqb (w .at) 0)
     where
-      go : (b : Bool) → not b ≡ misplacedBytes Barred (cond b none (some (partAt s w)))
+      go : (b : Bool) → not b ≡ misplacedBytes Forbidden (cond b none (some (partAt s w)))
       go true = refl
       go false = refl

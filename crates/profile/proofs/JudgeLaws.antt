@@ -6,26 +6,26 @@ use mathlib.Core.Path.{_≡_, sym, _∙_, ap}
 use mathlib.Core.List.{List, _∷_, _++_}
 use Rattle.text.specs.Rows.{Row, row, firstOf}
 use Rattle.text.proofs.Rows.{rows-stop}
-use Rattle.grammar.specs.Pieces.{Slot}
+use Rattle.grammar.specs.Pieces.{OptionalText}
 use Rattle.table.specs.Limits.{Profile}
 use Rattle.profile.specs.ReaderSteps.{NumbersAre, Judged}
 use Rattle.profile.specs.declared.judge.Judgement.{Judgement}
 
 -- ---- row 10
 
-module _ (strange missing : Bool) (rs : List Row) where
-  pub ten-strange : strange ≡ true → firstOf (row 10 (strange || missing) ∷ rs) ≡ 10
-  ten-strange e = rw e
+module _ (unmatched missing : Bool) (rs : List Row) where
+  pub ten-unmatched : unmatched ≡ true → firstOf (row 10 (unmatched || missing) ∷ rs) ≡ 10
+  ten-unmatched e = rw e
 
-  pub ten-missing : strange ≡ false → missing ≡ true → firstOf (row 10 (strange || missing) ∷ rs) ≡ 10
+  pub ten-missing : unmatched ≡ false → missing ≡ true → firstOf (row 10 (unmatched || missing) ∷ rs) ≡ 10
   ten-missing e h = rw (e, h)
 
-  pub ten-clear : strange ≡ false → missing ≡ false → firstOf (row 10 (strange || missing) ∷ rs) ≡ firstOf rs
+  pub ten-clear : unmatched ≡ false → missing ≡ false → firstOf (row 10 (unmatched || missing) ∷ rs) ≡ firstOf rs
   ten-clear e h = rw (e, h)
 
 -- ---- the judgement
 
-module _ (rows : List Row) (r : Profile) (vs : List Slot) (j : Judgement) where
+module _ (rows : List Row) (r : Profile) (vs : List OptionalText) (j : Judgement) where
   -- a row applies
   pub judged-refused : (n : ℕ) → j ≡ record { number = n; m = 0; t = 0; p = 0 } → firstOf rows ≡ n → (n ≡ 0 → ⊥) → Judged rows r vs j
   judged-refused n e h z =
@@ -36,7 +36,7 @@ module _ (rows : List Row) (r : Profile) (vs : List Slot) (j : Judgement) where
   judged-accepted e h n = record { number-is = e ∙ sym h; numbers-are = λ (o : firstOf rows ≡ 0). n }
 
 -- the rows before others already gave the number
-pub judged-before : (rs ts : List Row) (r : Profile) (vs : List Slot) (j : Judgement) → Judged rs r vs j → (j .number ≡ 0 → ⊥)
+pub judged-before : (rs ts : List Row) (r : Profile) (vs : List OptionalText) (j : Judgement) → Judged rs r vs j → (j .number ≡ 0 → ⊥)
     → (rows : List Row) → firstOf rows ≡ firstOf (rs ++ ts) → Judged rows r vs j
 judged-before rs ts r vs j d z rows e =
     let q : firstOf rows ≡ j .number = e ∙ rows-stop rs ts (j .number) (d .number-is) z in

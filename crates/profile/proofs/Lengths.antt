@@ -17,12 +17,12 @@ use Rattle.b64.proofs.B64Laws.{length-encode}
 use Rattle.decimal.specs.Decimal.{digitsWithin, digits}
 use Rattle.decimal.proofs.DecimalLaws.{by-tens, length-small, length-step, length-pos}
 use Rattle.grammar.specs.Limits.{longestString}
-use Rattle.grammar.proofs.Reading.{whole-long}
+use Rattle.grammar.proofs.Reading.{bad-string-long}
 use Rattle.table.specs.Limits.{Profile, inRange, versionAllowed, editionTwo, room}
 use Rattle.table.specs.declared.limits.NumberRule.{NumberRule}
-use Rattle.table.specs.declared.limits.NumberRule.the-variants.{Needed, Omitted, Fixed}
+use Rattle.table.specs.declared.limits.NumberRule.the-variants.{Required, Defaulted, Constant}
 use Rattle.table.specs.declared.limits.BytesRule.{BytesRule}
-use Rattle.table.specs.declared.limits.BytesRule.the-variants.{Sized, Barred}
+use Rattle.table.specs.declared.limits.BytesRule.the-variants.{Sized, Forbidden}
 use Rattle.table.specs.declared.version.Version.{Version}
 use Rattle.table.specs.declared.version.Version.the-variants.{Absent, Number}
 use Rattle.profile.specs.Fields.{FieldSet, writeNumber, writeBytes, writeVersion}
@@ -45,34 +45,34 @@ digits-longer =
     (λ n h longer high l. omega (arith, length-step n h, length-step high (omega arith), longer (high / 10) (omega arith)))
 
 abbrev mostNumber : ℕ → NumberRule → ℕ
-mostNumber before (Needed low high) = before + length (digits high)
-mostNumber before (Omitted low high given) = before + length (digits high)
-mostNumber before (Fixed given) = 0
+mostNumber before (Required low high) = before + length (digits high)
+mostNumber before (Defaulted low high default) = before + length (digits high)
+mostNumber before (Constant value) = 0
 
 abbrev leastNumber : ℕ → NumberRule → ℕ
-leastNumber before (Needed low high) = before + length (digits low)
-leastNumber before (Omitted low high given) = 0
-leastNumber before (Fixed given) = 0
+leastNumber before (Required low high) = before + length (digits low)
+leastNumber before (Defaulted low high default) = 0
+leastNumber before (Constant value) = 0
 
 number-cost : (before : ℕ) (r : NumberRule) (n : ℕ) → inRange r n ≡ true
     → (taggedLength before (writeNumber r n) ≤ mostNumber before r) × (leastNumber before r ≤ taggedLength before (writeNumber r n))
-number-cost before (Needed low high) n e =
+number-cost before (Required low high) n e =
     let w = from-within low high n e in
     (omega (arith, digits-longer n high (w .1)), omega (arith, digits-longer low n (w .0)))
-number-cost before (Omitted low high given) n e = (go (eqb n given), omega arith)
+number-cost before (Defaulted low high default) n e = (go (eqb n default), omega arith)
   where
     go : (b : Bool) → taggedLength before (cond b none (some (digits n))) ≤ before + length (digits high)
     go true = omega arith
     go false = omega (arith, digits-longer n high (from-within low high n e .1))
-number-cost before (Fixed given) n e = (omega arith, omega arith)
+number-cost before (Constant value) n e = (omega arith, omega arith)
 
 abbrev mostBytes : ℕ → BytesRule → ℕ
 mostBytes before (Sized low high) = before + charsOf (high .0)
-mostBytes before Barred = 0
+mostBytes before Forbidden = 0
 
 abbrev leastBytes : ℕ → BytesRule → ℕ
 leastBytes before (Sized low high) = before + charsOf (low .0)
-leastBytes before Barred = 0
+leastBytes before Forbidden = 0
 
 -- the least is of one that is there
 bytes-cost : (before : ℕ) (r : BytesRule) (bs : List ℕ) → bytesAllowed r bs ≡ true
@@ -82,7 +82,7 @@ bytes-cost before (Sized low high) (b ∷ bs) e =
     let w = from-within (low .0) (high .0) (length (b ∷ bs)) e in
     let l = length-encode (b ∷ bs) in
     (omega arith, λ h. omega arith)
-bytes-cost before Barred (b ∷ bs) e = absurd (false≢true e)
+bytes-cost before Forbidden (b ∷ bs) e = absurd (false≢true e)
 
 abbrev mostVersion : List ℕ → ℕ
 mostVersion [] = 0
@@ -107,7 +107,7 @@ unfoldable pub longest : Profile → ℕ
 longest r =
     1 + length (r .name) + mostVersion (r .versions)
     + mostNumber 3 (r .m) + mostNumber 3 (r .t) + mostNumber 3 (r .p)
-    + mostBytes 7 (r .keyid) + mostBytes 6 (r .ad)
+    + mostBytes 7 (r .keyid) + mostBytes 6 (r .«data»)
     + mostBytes 1 (r .salt) + mostBytes 1 (r .output)
 
 -- of a hash string
@@ -134,7 +134,7 @@ bounds e f h =
     let t = number-cost 3 (r .t) (n .t) (h .t) in
     let p = number-cost 3 (r .p) (n .p) (h .p) in
     let keyid = bytes-cost 7 (r .keyid) (f .keyid) (h .keyid) in
-    let ad = bytes-cost 6 (r .ad) (f .ad) (h .ad) in
+    let «data» = bytes-cost 6 (r .«data») (f .«data») (h .«data») in
     let salt = bytes-cost 1 (r .salt) (f .salt) (h .salt) in
     let output = bytes-cost 1 (r .output) (f .output) (h .output) in
     (omega arith, λ o. omega (arith, salt .1 (salted (f .salt) (f .output) (h .order) o), output .1 o))
@@ -182,7 +182,7 @@ most-room f h = go (leb (f .numbers .id) 3) (bounds-two f h .0)
 module _ (e : List Profile) (s : List ℕ) (h : longestString < length s) where
   pub long : answer e s ≡ 1
   unfolding answer
-  long = rw (whole-long s h)
+  long = rw (bad-string-long s h)
 
   pub long-reading : reading e s ≡ refusedReading 1
   unfolding reading

@@ -1,5 +1,5 @@
 pub mod Codecs
-pub mod Slots
+pub mod NamedValues
 pub mod SoundLaws
 pub mod Allows
 pub mod Written
@@ -9,7 +9,7 @@ pub mod Shorts
 pub mod Texts
 pub mod Lengths
 pub mod Strings
-pub mod SlotLaws
+pub mod OptionalTextLaws
 pub mod FieldLaws
 pub mod ValueLaws
 pub mod JudgeLaws

@@ -1,4 +1,4 @@
--- The short writer's number is the writer's number for the short writer's fields, in every edition that passes the test `usualSound`; where
+-- The short writer's number is the writer's number for the short writer's fields, in every edition that passes the test `defaultsSound`; where
 -- it is 0 they are permitted.
 -- Assumes nothing.
 use Prim.Native.Nat.{ℕ}
@@ -12,18 +12,18 @@ use Rattle.profile.specs.Writer.{Permitted, refusal, formatted, shortFie
 use Rattle.profile.specs.Claims.{ShortAgrees}
 use Rattle.profile.specs.Fields.{fieldSet}
 use Rattle.profile.specs.Entries.{writing, shortWriting}
-use Rattle.profile.specs.Sound.{usualSound}
+use Rattle.profile.specs.Sound.{defaultsSound}
 use Rattle.profile.specs.declared.fields.Fields.{Fields}
-use Rattle.profile.proofs.SoundLaws.{usual-at, edition-two-usual}
+use Rattle.profile.proofs.SoundLaws.{defaults-at, edition-two-defaults}
 use Rattle.profile.proofs.Demand3.{permitted}
 
-module _ (e : List Profile) (ok : usualSound e ≡ true) (k : ℕ) (salt output : List ℕ) where
+module _ (e : List Profile) (ok : defaultsSound e ≡ true) (k : ℕ) (salt output : List ℕ) where
   short-number : shortRefusal e k salt output ≡ refusal e (shortFields e k salt output)
   unfolding refusal shortFields shortRefusal
   short-number = go (profileOf e k .known) refl
     where
       go : (b : Bool) → profileOf e k .known ≡ b → shortRefusal e k salt output ≡ refusal e (shortFields e k salt output)
-      go true q = let u = usual-at e ok k q in rw (u .version, u .m, u .t, u .p, u .lanes, q)
+      go true q = let u = defaults-at e ok k q in rw (u .version, u .m, u .t, u .p, u .lanes, q)
       go false q = rw q
 
   short-permitted : shortRefusal e k salt output ≡ 0 → all isByte salt ≡ true → all isByte output ≡ true → Permitted e (shortFields e k salt output)
@@ -34,12 +34,12 @@ module _ (e : List Profile) (ok : usualSound e ≡ true) (k : ℕ) (salt output 
   unfolding writing shortWriting
   short-writing buffer at = ap (λ (n : ℕ). putAfter n buffer at (formatted e (shortFields e k salt output))) short-number
 
-pub short-agrees : (e : List Profile) → usualSound e ≡ true → ShortAgrees e
+pub short-agrees : (e : List Profile) → defaultsSound e ≡ true → ShortAgrees e
 short-agrees e ok =
     record { writes = λ k salt output buffer at. short-writing e ok k salt output buffer at; permitted = λ k salt output z s o. short-permitted e ok k salt output z s o }
 
 pub short-agrees-two : ShortAgrees editionTwo
-short-agrees-two = short-agrees editionTwo edition-two-usual
+short-agrees-two = short-agrees editionTwo edition-two-defaults
 
 -- the short writer as the code has it: a call of the writer with the usual numbers
 pub short-by : (k : ℕ) (salt output buffer : List ℕ) (at : ℕ) (n : Fields) → n ≡ shortFields editionTwo k [] [] .numbers

@@ -13,20 +13,20 @@ use Rattle.text.proofs.Lists.{same-eq}
 use Rattle.text.proofs.Table.{every-at}
 use Rattle.grammar.specs.Bytes.{isNameByte, isText}
 use Rattle.grammar.specs.Rules.{isName}
-use Rattle.table.specs.Limits.{Profile, inRange, versionAllowed, next, idOf, nobody, profileOf, editionTwo, fewKilobytes}
-use Rattle.profile.specs.Sound.{soundNumber, soundBytes, soundOutput, soundVersions, soundAt, sound, usualAt, usualSound}
+use Rattle.table.specs.Limits.{Profile, inRange, versionAllowed, next, idOf, noProfile, profileOf, editionTwo, fewKilobytes}
+use Rattle.profile.specs.Sound.{soundNumber, soundBytes, soundOutput, soundVersions, soundAt, sound, defaultsAt, defaultsSound}
 
 -- ---- a test on each entry
 
 -- only an entry of the table is known
-known-inside : (rs : List Profile) (k : ℕ) → getD rs k nobody .known ≡ true → k < length rs
+known-inside : (rs : List Profile) (k : ℕ) → getD rs k noProfile .known ≡ true → k < length rs
 known-inside [] k h = absurd (false≢true h)
 known-inside (r ∷ rs) zero h = omega arith
 known-inside (r ∷ rs) (suc k) h = let q = known-inside rs k h in omega arith
 
 pub at-id : (f : ℕ → Profile → Bool) (e : List Profile) → every f 1 e ≡ true → (k : ℕ) → profileOf e k .known ≡ true → f k (profileOf e k) ≡ true
 at-id f e t zero h = absurd (false≢true h)
-at-id f e t (suc k) h = subst (λ (i : ℕ). f i (getD e k nobody) ≡ true) (omega arith) (every-at f nobody e 1 t k (known-inside e k h))
+at-id f e t (suc k) h = subst (λ (i : ℕ). f i (getD e k noProfile) ≡ true) (omega arith) (every-at f noProfile e 1 t k (known-inside e k h))
 
 -- ---- the tests of an edition
 
@@ -39,7 +39,7 @@ pub record Entry (e : List Profile) (k : ℕ) (r : Profile) : Type 0 where
   pub t : soundNumber (r .t) ≡ true
   pub p : soundNumber (r .p) ≡ true
   pub keyid : soundBytes (r .keyid) ≡ true
-  pub ad : soundBytes (r .ad) ≡ true
+  pub «data» : soundBytes (r .«data») ≡ true
   pub salt : soundBytes (r .salt) ≡ true
   pub output : soundOutput (r .output) ≡ true
 
@@ -62,7 +62,7 @@ entry e k r known h₀ =
       t = h₅ .0;
       p = h₆ .0;
       keyid = h₇ .0;
-      ad = h₈ .0;
+      «data» = h₈ .0;
       salt = h₉ .0;
       output = h₉ .1;
     }
@@ -72,25 +72,25 @@ unfolding sound
 entry-at e s k h = entry e k (profileOf e k) h (at-id (soundAt e) e s k h)
 
 -- what the second test says: the short writer's numbers are permitted
-pub record UsualEntry (r : Profile) : Type 0 where
-  pub version : versionAllowed (r .versions) (r .usual .version) ≡ true
-  pub m : inRange (r .m) (r .usual .m) ≡ true
-  pub t : inRange (r .t) (r .usual .t) ≡ true
-  pub p : inRange (r .p) (r .usual .p) ≡ true
-  pub lanes : fewKilobytes (r .usual .m) (r .usual .p) ≡ false
+pub record DefaultsEntry (r : Profile) : Type 0 where
+  pub version : versionAllowed (r .versions) (r .defaults .version) ≡ true
+  pub m : inRange (r .m) (r .defaults .m) ≡ true
+  pub t : inRange (r .t) (r .defaults .t) ≡ true
+  pub p : inRange (r .p) (r .defaults .p) ≡ true
+  pub lanes : fewKilobytes (r .defaults .m) (r .defaults .p) ≡ false
 
-usual-entry : (k : ℕ) (r : Profile) → r .known ≡ true → usualAt k r ≡ true → UsualEntry r
-usual-entry k r known h₀ =
-    let u = r .usual in
+defaults-entry : (k : ℕ) (r : Profile) → r .known ≡ true → defaultsAt k r ≡ true → DefaultsEntry r
+defaults-entry k r known h₀ =
+    let u = r .defaults in
     let h₁ = both (versionAllowed (r .versions) (u .version)) _ (implied (r .known) _ h₀ known) in
     let h₂ = both (inRange (r .m) (u .m)) _ (h₁ .1) in
     let h₃ = both (inRange (r .t) (u .t)) _ (h₂ .1) in
     let h₄ = both (inRange (r .p) (u .p)) (not (fewKilobytes (u .m) (u .p))) (h₃ .1) in
     record { version = h₁ .0; m = h₂ .0; t = h₃ .0; p = h₄ .0; lanes = is-false (fewKilobytes (u .m) (u .p)) (h₄ .1) }
 
-pub usual-at : (e : List Profile) → usualSound e ≡ true → (k : ℕ) → profileOf e k .known ≡ true → UsualEntry (profileOf e k)
-unfolding usualSound
-usual-at e s k h = usual-entry k (profileOf e k) h (at-id usualAt e s k h)
+pub defaults-at : (e : List Profile) → defaultsSound e ≡ true → (k : ℕ) → profileOf e k .known ≡ true → DefaultsEntry (profileOf e k)
+unfolding defaultsSound
+defaults-at e s k h = defaults-entry k (profileOf e k) h (at-id defaultsAt e s k h)
 
 -- ---- ids and their numbers
 
@@ -109,6 +109,6 @@ pub edition-two-sound : sound editionTwo ≡ true
 unfolding sound editionTwo isNameByte isText
 edition-two-sound = refl
 
-pub edition-two-usual : usualSound editionTwo ≡ true
-unfolding usualSound editionTwo
-edition-two-usual = refl
+pub edition-two-defaults : defaultsSound editionTwo ≡ true
+unfolding defaultsSound editionTwo
+edition-two-defaults = refl

@@ -10,7 +10,7 @@ use Rattle.text.specs.Text.{text, all, same, empty, cut, tailIf, partsFrom}
 use Rattle.text.proofs.Tests.{both}
 use Rattle.text.proofs.Splitting.{some-from}
 use Rattle.grammar.specs.Bytes.{comma, equals}
-use Rattle.grammar.specs.Pieces.{Slot}
+use Rattle.grammar.specs.Pieces.{OptionalText}
 use Rattle.grammar.specs.Items.{Item, items, itemsFrom}
 use Rattle.grammar.specs.Rules.{isItem}
 use Rattle.grammar.specs.Layout.{span}
@@ -20,10 +20,10 @@ use Rattle.grammar.specs.declared.places.Span.{Span}
 use Rattle.grammar.specs.declared.item_places.ItemPlace.{ItemPlace}
 use Rattle.grammar.proofs.ItemLaws.{items-start}
 use Rattle.grammar.proofs.ItemPlaces.{items-past, items-found, kept-value-at}
-use Rattle.profile.specs.Reader.{names, named, slots, strangers}
-use Rattle.profile.specs.ReaderSteps.{slotIn, ValueStep, slotsIn, ValuesAre}
+use Rattle.profile.specs.Reader.{names, named, namedValues, unmatchedItems}
+use Rattle.profile.specs.ReaderSteps.{spanText, ValueStep, spanTexts, ValuesAre}
 use Rattle.profile.specs.declared.values.Values.{Values}
-use Rattle.profile.proofs.SlotLaws.{slot-some}
+use Rattle.profile.proofs.OptionalTextLaws.{optional-some}
 
 -- ---- a step over the item found at a place
 
@@ -31,7 +31,7 @@ module _ (s name : List ℕ) (at : ℕ) (h : at ≤ length s) (ok : all isItem (
   pub step-to : same (partAt s (w .name)) name ≡ true → ValueStep s name at (w .value) (w .next)
   step-to b =
       let i = items-found s at h w q in
-      record { found = slot-some s (w .value) (λ z. kept-value-at s at h ok (sym (ap (λ (v : ItemPlace). v .value .at) q) ∙ z)) ∙ rw (i, b); left = rw (i, b) }
+      record { found = optional-some s (w .value) (λ z. kept-value-at s at h ok (sym (ap (λ (v : ItemPlace). v .value .at) q) ∙ z)) ∙ rw (i, b); left = rw (i, b) }
 
   pub step-not : same (partAt s (w .name)) name ≡ false → ValueStep s name at (span 0 0) at
   step-not b = let i = items-found s at h w q in record { found = rw (i, b); left = rw (i, b) }
@@ -60,32 +60,32 @@ module _ {s name : List ℕ} {at : ℕ} {w : Span} {next : ℕ} (step : ValueSte
   pub on : all isItem (itemsFrom s at) ≡ true → all isItem (itemsFrom s next) ≡ true
   on e = ap (all isItem) (step .left) ∙ all-tail isItem (named name) (itemsFrom s at) e
 
-  slots-on : (ns : List (List ℕ)) (l : List Slot) → slots ns (itemsFrom s next) ≡ l → slots (name ∷ ns) (itemsFrom s at) ≡ slotIn s w ∷ l
-  slots-on ns l e = ap₂ {C = List Slot} _∷_ (sym (step .found)) (ap (slots ns) (sym (step .left)) ∙ e)
+  values-on : (ns : List (List ℕ)) (l : List OptionalText) → namedValues ns (itemsFrom s next) ≡ l → namedValues (name ∷ ns) (itemsFrom s at) ≡ spanText s w ∷ l
+  values-on ns l e = ap₂ {C = List OptionalText} _∷_ (sym (step .found)) (ap (namedValues ns) (sym (step .left)) ∙ e)
 
-  strangers-on : (ns : List (List ℕ)) (l : List Item) → strangers ns (itemsFrom s next) ≡ l → strangers (name ∷ ns) (itemsFrom s at) ≡ l
-  strangers-on ns l e = ap (strangers ns) (sym (step .left)) ∙ e
+  unmatched-on : (ns : List (List ℕ)) (l : List Item) → unmatchedItems ns (itemsFrom s next) ≡ l → unmatchedItems (name ∷ ns) (itemsFrom s at) ≡ l
+  unmatched-on ns l e = ap (unmatchedItems ns) (sym (step .left)) ∙ e
 
 -- five steps from the first item on find the values
-module _ (s : List ℕ) (m t p keyid ad : Span) (n₁ n₂ n₃ n₄ n₅ : ℕ)
+module _ (s : List ℕ) (m t p keyid «data» : Span) (n₁ n₂ n₃ n₄ n₅ : ℕ)
     (a : ValueStep s (text "m") 0 m n₁) (b : ValueStep s (text "t") n₁ t n₂) (c : ValueStep s (text "p") n₂ p n₃)
-    (d : ValueStep s (text "keyid") n₃ keyid n₄) (e : ValueStep s (text "data") n₄ ad n₅) where
+    (d : ValueStep s (text "keyid") n₃ keyid n₄) (e : ValueStep s (text "data") n₄ «data» n₅) where
   abbrev values : Values
-  values = record { m = m; t = t; p = p; keyid = keyid; ad = ad; strange = leb n₅ (length s) }
+  values = record { m = m; t = t; p = p; keyid = keyid; «data» = «data»; unmatched = leb n₅ (length s) }
 
-  found-all : slots names (items s) ≡ slotsIn s values
+  found-all : namedValues names (items s) ≡ spanTexts s values
   found-all =
-      ap (slots names) (items-start s)
-      ∙ slots-on a (drop 1 names) _ (slots-on b (drop 2 names) _ (slots-on c (drop 3 names) _ (slots-on d (drop 4 names) _ (slots-on e [] [] refl))))
+      ap (namedValues names) (items-start s)
+      ∙ values-on a (drop 1 names) _ (values-on b (drop 2 names) _ (values-on c (drop 3 names) _ (values-on d (drop 4 names) _ (values-on e [] [] refl))))
 
-  left-all : strangers names (items s) ≡ itemsFrom s n₅
+  left-all : unmatchedItems names (items s) ≡ itemsFrom s n₅
   left-all =
-      ap (strangers names) (items-start s)
-      ∙ strangers-on a (drop 1 names) _ (strangers-on b (drop 2 names) _ (strangers-on c (drop 3 names) _ (strangers-on d (drop 4 names) _ (strangers-on e [] _ refl))))
+      ap (unmatchedItems names) (items-start s)
+      ∙ unmatched-on a (drop 1 names) _ (unmatched-on b (drop 2 names) _ (unmatched-on c (drop 3 names) _ (unmatched-on d (drop 4 names) _ (unmatched-on e [] _ refl))))
 
   pub values-are : ValuesAre s (items s) values
   values-are =
       record {
         found = sym found-all;
-        strange-is = sym (ap (λ (l : List Item). not (empty l)) left-all ∙ ap not (empty-map (cut equals) (partsFrom comma s n₅)) ∙ some-from comma s n₅);
+        unmatched-is = sym (ap (λ (l : List Item). not (empty l)) left-all ∙ ap not (empty-map (cut equals) (partsFrom comma s n₅)) ∙ some-from comma s n₅);
       }

@@ -9,7 +9,7 @@ use native.Mathlib.Omega.{arith}
 use lib.Dec.{leb, eqb}
 use lib.ListN.{length}
 use borrow.Author.Tests.{le-leb}
-use Rattle.text.specs.Text.{text, all, has, same, empty, listOf, broken, Frees, Fails, Fits}
+use Rattle.text.specs.Text.{text, all, has, same, empty, listOf, violates, Frees, Fails, Fits}
 use Rattle.text.proofs.Tests.{both, and-true, neither, or-false, not-of-true, is-true, is-false}
 use Rattle.text.proofs.Rows.{Clear, zero-of, clear-append}
 use Rattle.text.proofs.Lists.{not-in, has-middle}
@@ -18,14 +18,14 @@ use Rattle.b64.specs.B64.{canonical}
 use Rattle.decimal.specs.Decimal.{digits}
 use Rattle.grammar.specs.Bytes.{isNameByte, isValueByte, isText}
 use Rattle.grammar.specs.Limits.{longestValue, longestOutput, mostItems}
-use Rattle.grammar.specs.Pieces.{Slot, Pieces, isVersionPiece, belongs, pieces, string}
+use Rattle.grammar.specs.Pieces.{OptionalText, Pieces, isVersionPiece, belongs, pieces, string}
 use Rattle.grammar.specs.Items.{Item, itemText, itemsOf, paramsText}
 use Rattle.grammar.specs.Rules.{isName, isValue, isItem, isParams, pieceRows, grammarRows, isOutput}
 use Rattle.grammar.specs.Claims.{Sorts}
 use Rattle.grammar.specs.declared.places.Piece.the-variants.{Version as Piece·Version, Params, Salt, Output}
 use Rattle.grammar.proofs.ItemLaws.{joined, items-params, item-free, items-free, name-free, value-free}
 use Rattle.grammar.proofs.PieceLaws.{pieces-string}
-use Rattle.grammar.proofs.Reading.{whole-first}
+use Rattle.grammar.proofs.Reading.{bad-string-first}
 use Rattle.grammar.proofs.Longest.{at-most}
 use Rattle.grammar.proofs.ValueBytes.{canonical-values}
 use Rattle.table.specs.Limits.{Profile, versionAllowed, profileOf, fewKilobytes}
@@ -33,24 +33,24 @@ use Rattle.table.specs.declared.limits.BytesRule.{BytesRule}
 use Rattle.table.specs.declared.version.Version.{Version}
 use Rattle.table.specs.declared.version.Version.the-variants.{Absent, Number}
 use Rattle.profile.specs.Fields.{FieldSet, writeNumber, writeBytes, writeVersion}
-use Rattle.profile.specs.Reader.{names, slots, strangers, rowsFor, profileRows, answer, fieldsFor, carried, fieldsOf}
-use Rattle.profile.specs.Writer.{Permitted, itemList, fieldSlots, fieldPieces, formatted}
+use Rattle.profile.specs.Reader.{names, namedValues, unmatchedItems, rowsFor, profileRows, answer, fieldsFor, carried, fieldsOf}
+use Rattle.profile.specs.Writer.{Permitted, itemList, fieldValues, fieldPieces, formatted}
 use Rattle.profile.specs.Sound.{sound}
 use Rattle.profile.proofs.Codecs.{digits-values, NumberWritten, number-forth, BytesWritten, bytes-forth, written-value, written-output, VersionWritten, version-forth}
-use Rattle.profile.proofs.Slots.{slots-list}
+use Rattle.profile.proofs.NamedValues.{values-list}
 use Rattle.profile.proofs.SoundLaws.{Entry, entry-at}
 
 -- ---- the items keep the grammar's rule
 
 -- what is there is a value
-abbrev pub Goods : List Slot → Type 0
+abbrev pub Goods : List OptionalText → Type 0
 Goods [] = Unit {0}
-Goods (v ∷ vs) = (broken isValue v ≡ false) × Goods vs
+Goods (v ∷ vs) = (violates isValue v ≡ false) × Goods vs
 
 abbrev goodName : List ℕ → Bool
 goodName n = isName n && not (same n (text "v"))
 
-all-good : (ns : List (List ℕ)) (vs : List Slot) → all goodName ns ≡ true → Goods vs → all isItem (itemList ns vs) ≡ true
+all-good : (ns : List (List ℕ)) (vs : List OptionalText) → all goodName ns ≡ true → Goods vs → all isItem (itemList ns vs) ≡ true
 unfolding isItem
 all-good [] vs e g = refl
 all-good (n ∷ ns) [] e g = refl
@@ -63,13 +63,13 @@ names-good : all goodName names ≡ true
 unfolding isNameByte isText
 names-good = refl
 
-few : (ns : List (List ℕ)) (vs : List Slot) → length (itemList ns vs) ≤ length ns
+few : (ns : List (List ℕ)) (vs : List OptionalText) → length (itemList ns vs) ≤ length ns
 few [] vs = omega arith
 few (n ∷ ns) [] = omega arith
 few (n ∷ ns) (none ∷ vs) = let h = few ns vs in omega arith
 few (n ∷ ns) (some v ∷ vs) = let h = few ns vs in omega arith
 
-params-good : (is : List Item) → all isItem is ≡ true → length is ≤ mostItems → broken isParams (paramsText is) ≡ false
+params-good : (is : List Item) → all isItem is ≡ true → length is ≤ mostItems → violates isParams (paramsText is) ≡ false
 unfolding isParams
 params-good [] e h = refl
 params-good (i ∷ is) e h =
@@ -98,7 +98,7 @@ joined-begins i is = join-marked 44 (itemText i) (map itemText is) ∙ append-as
 -- ---- the pieces sort as they stand
 
 -- an output only after a salt
-abbrev pub After : Slot → Slot → Type 0
+abbrev pub After : OptionalText → OptionalText → Type 0
 After none none = Unit {0}
 After none (some o) = ⊥
 After (some s) o = Unit {0}
@@ -108,7 +108,7 @@ after [] [] e = tt
 after [] (o ∷ os) e = absurd (true≢false e)
 after (s ∷ ss) os e = tt
 
-no-version : (is : List Item) (salt output : Slot) → all isItem is ≡ true → broken isValue salt ≡ false → After salt output
+no-version : (is : List Item) (salt output : OptionalText) → all isItem is ≡ true → violates isValue salt ≡ false → After salt output
     → Fails (belongs Piece·Version) (listOf (paramsText is) ++ (listOf salt ++ (listOf output ++ [])))
 unfolding isNameByte isValueByte isItem
 no-version [] none none e v a = tt
@@ -122,7 +122,7 @@ version-fit : (v : Version) (l : List (List ℕ)) → Fails (belongs Piece·Vers
 version-fit Absent l h = h
 version-fit (Number n) l h = refl
 
-params-fit : (is : List Item) (salt output : Slot) → broken isValue salt ≡ false → After salt output
+params-fit : (is : List Item) (salt output : OptionalText) → violates isValue salt ≡ false → After salt output
     → Fits (belongs Params) (paramsText is) (listOf salt ++ (listOf output ++ []))
 unfolding isNameByte isValueByte
 params-fit [] none none v a = tt
@@ -130,22 +130,22 @@ params-fit [] none (some o) v a = absurd a
 params-fit [] (some s) o v a = value-free 61 refl refl s (is-true (isValue s) v)
 params-fit (i ∷ is) salt output v a = ap (has 61) (joined-begins i is) ∙ has-middle 61 (i .0) (i .1 ++ marked 44 (map itemText is))
 
-salt-fit : (salt output : Slot) → After salt output → Fits (belongs Salt) salt (listOf output ++ [])
+salt-fit : (salt output : OptionalText) → After salt output → Fits (belongs Salt) salt (listOf output ++ [])
 salt-fit none none a = tt
 salt-fit none (some o) a = absurd a
 salt-fit (some s) o a = refl
 
-output-fit : (output : Slot) → Fits (belongs Output) output []
+output-fit : (output : OptionalText) → Fits (belongs Output) output []
 output-fit none = tt
 output-fit (some o) = refl
 
 -- ---- none of them has a `$`
 
-abbrev Free : Slot → Type 0
+abbrev Free : OptionalText → Type 0
 Free none = Unit {0}
 Free (some t) = has 36 t ≡ false
 
-add-free : (s : Slot) (l : List (List ℕ)) → Free s → Frees 36 l → Frees 36 (listOf s ++ l)
+add-free : (s : OptionalText) (l : List (List ℕ)) → Free s → Frees 36 l → Frees 36 (listOf s ++ l)
 add-free none l h k = k
 add-free (some t) l h k = (h, k)
 
@@ -161,12 +161,12 @@ params-free (i ∷ is) e =
     let q = both (isItem i) (all isItem is) e in
     join-free 36 44 refl (itemText i) (map itemText is) (item-free 36 refl refl refl i (q .0)) (items-free 36 refl refl refl is (q .1))
 
-value-slot-free : (s : Slot) → broken isValue s ≡ false → Free s
+value-optional-free : (s : OptionalText) → violates isValue s ≡ false → Free s
 unfolding isNameByte isValueByte
-value-slot-free none e = tt
-value-slot-free (some s) e = value-free 36 refl refl s (is-true (isValue s) e)
+value-optional-free none e = tt
+value-optional-free (some s) e = value-free 36 refl refl s (is-true (isValue s) e)
 
-canonical-free : (s : Slot) → broken canonical s ≡ false → Free s
+canonical-free : (s : OptionalText) → violates canonical s ≡ false → Free s
 unfolding isValueByte
 canonical-free none e = tt
 canonical-free (some s) e = not-in isValueByte 36 refl s (canonical-values s (is-true (canonical s) e))
@@ -184,16 +184,16 @@ module _ (e : List Profile) (ok : sound e ≡ true) where
     p : NumberWritten (r .p) (f .numbers .p) (writeNumber (r .p) (f .numbers .p))
     lanes : fewKilobytes (f .numbers .m) (f .numbers .p) ≡ false
     keyid : BytesWritten longestValue (r .keyid) (f .keyid) (writeBytes (f .keyid))
-    ad : BytesWritten longestValue (r .ad) (f .ad) (writeBytes (f .ad))
+    «data» : BytesWritten longestValue (r .«data») (f .«data») (writeBytes (f .«data»))
     salt : BytesWritten longestValue (r .salt) (f .salt) (writeBytes (f .salt))
     output : BytesWritten longestOutput (r .output) (f .output) (writeBytes (f .output))
     order : After (writeBytes (f .salt)) (writeBytes (f .output))
 
   -- keyid, data and salt are values, and the output is one
-  value : {r : BytesRule} {bs : List ℕ} {s : Slot} → BytesWritten longestValue r bs s → broken isValue s ≡ false
+  value : {r : BytesRule} {bs : List ℕ} {s : OptionalText} → BytesWritten longestValue r bs s → violates isValue s ≡ false
   value {r} {bs} {s} h = written-value s (h .counted) (h .text-is)
 
-  output-is : {r : BytesRule} {bs : List ℕ} {s : Slot} → BytesWritten longestOutput r bs s → broken isOutput s ≡ false
+  output-is : {r : BytesRule} {bs : List ℕ} {s : OptionalText} → BytesWritten longestOutput r bs s → violates isOutput s ≡ false
   output-is {r} {bs} {s} h = written-output s (h .counted) (h .text-is)
 
   facts : (f : FieldSet) → Permitted e f → Facts f (profileOf e (f .numbers .id))
@@ -213,16 +213,16 @@ module _ (e : List Profile) (ok : sound e ≡ true) where
         p = number-forth (r .p) (n .p) (E .p) (h .p);
         lanes = h .lanes;
         keyid = bytes-forth longestValue (r .keyid) (f .keyid) (E .keyid) (b .0) (h .keyid);
-        ad = bytes-forth longestValue (r .ad) (f .ad) (E .ad) (b .1) (h .ad);
+        «data» = bytes-forth longestValue (r .«data») (f .«data») (E .«data») (b .1) (h .«data»);
         salt = bytes-forth longestValue (r .salt) (f .salt) (E .salt) (b .2) (h .salt);
         output = bytes-forth longestOutput (r .output) (f .output) (E .output) (b .3) (h .output);
         order = after (f .salt) (f .output) (h .order);
       }
 
-  items-good : (f : FieldSet) (r : Profile) → Facts f r → all isItem (itemList names (fieldSlots r f)) ≡ true
+  items-good : (f : FieldSet) (r : Profile) → Facts f r → all isItem (itemList names (fieldValues r f)) ≡ true
   items-good f r h =
-      all-good names (fieldSlots r f) names-good
-      (h .m .good, (h .t .good, (h .p .good, (value (h .keyid), (value (h .ad), tt)))))
+      all-good names (fieldValues r f) names-good
+      (h .m .good, (h .t .good, (h .p .good, (value (h .keyid), (value (h .«data»), tt)))))
 
   -- ---- the grammar's side
 
@@ -230,7 +230,7 @@ module _ (e : List Profile) (ok : sound e ≡ true) where
   unfolding fieldPieces isNameByte isValueByte
   sorts f h =
       let r = profileOf e (f .numbers .id) in
-      let is = itemList names (fieldSlots r f) in
+      let is = itemList names (fieldValues r f) in
       let g = items-good f r h in
       let salt = writeBytes (f .salt) in
       let output = writeBytes (f .output) in
@@ -243,15 +243,15 @@ module _ (e : List Profile) (ok : sound e ≡ true) where
         others-free =
             add-free (writeVersion (f .numbers .version)) _ (version-free (f .numbers .version))
             (add-free (paramsText is) _ (params-free is g)
-            (add-free salt _ (value-slot-free salt (value (h .salt))) (add-free output _ (canonical-free output (h .output .text-is)) tt)));
+            (add-free salt _ (value-optional-free salt (value (h .salt))) (add-free output _ (canonical-free output (h .output .text-is)) tt)));
       }
 
   grammar-clear : (f : FieldSet) → Facts f (profileOf e (f .numbers .id)) → Clear (pieceRows (fieldPieces e f))
   unfolding fieldPieces
   grammar-clear f h =
       let r = profileOf e (f .numbers .id) in
-      let is = itemList names (fieldSlots r f) in
-      let k = few names (fieldSlots r f) in (
+      let is = itemList names (fieldValues r f) in
+      let k = few names (fieldValues r f) in (
         not-of-true (h .entry .named),
         (
           h .version .version,
@@ -263,14 +263,14 @@ module _ (e : List Profile) (ok : sound e ≡ true) where
 
   -- the rows, at what the pieces are read as
   rows-clear : (f : FieldSet) → Facts f (profileOf e (f .numbers .id))
-      → Clear (rowsFor (profileOf e (f .numbers .id)) (f .numbers .version) (fieldSlots (profileOf e (f .numbers .id)) f) false (writeBytes (f .salt)) (writeBytes (f .output)))
+      → Clear (rowsFor (profileOf e (f .numbers .id)) (f .numbers .version) (fieldValues (profileOf e (f .numbers .id)) f) false (writeBytes (f .salt)) (writeBytes (f .output)))
   rows-clear f h =
       let n = f .numbers in (
         not-of-true (h .known),
         (
           not-of-true (h .allowed),
           (
-            or-false (or-false (or-false (or-false (h .m .placed) (h .t .placed)) (h .p .placed)) (h .keyid .placed)) (h .ad .placed),
+            or-false (or-false (or-false (or-false (h .m .placed) (h .t .placed)) (h .p .placed)) (h .keyid .placed)) (h .«data» .placed),
             (
               h .m .number,
               (
@@ -279,7 +279,7 @@ module _ (e : List Profile) (ok : sound e ≡ true) where
                   h .p .number,
                   (
                     rw (h .m .reads, h .p .reads) (h .lanes),
-                    (h .keyid .bytes, (h .ad .bytes, (h .m .short, (h .t .short, (h .p .short, (h .salt .bytes, (h .output .sized, tt))))))),
+                    (h .keyid .bytes, (h .«data» .bytes, (h .m .short, (h .t .short, (h .p .short, (h .salt .bytes, (h .output .sized, tt))))))),
                   ),
                 ),
               ),
@@ -290,12 +290,12 @@ module _ (e : List Profile) (ok : sound e ≡ true) where
 
   -- what the pieces are read as
   read-as : (f : FieldSet) (r : Profile) → Facts f r
-      → (slots names (itemsOf (paramsText (itemList names (fieldSlots r f)))) ≡ fieldSlots r f)
-      × (strangers names (itemsOf (paramsText (itemList names (fieldSlots r f)))) ≡ [])
+      → (namedValues names (itemsOf (paramsText (itemList names (fieldValues r f)))) ≡ fieldValues r f)
+      × (unmatchedItems names (itemsOf (paramsText (itemList names (fieldValues r f)))) ≡ [])
   read-as f r h =
-      let q = items-params (itemList names (fieldSlots r f)) (items-good f r h) in
-      let k = slots-list names (fieldSlots r f) refl tt in
-      (ap (slots names) q ∙ k .0, ap (strangers names) q ∙ k .1)
+      let q = items-params (itemList names (fieldValues r f)) (items-good f r h) in
+      let k = values-list names (fieldValues r f) refl tt in
+      (ap (namedValues names) q ∙ k .0, ap (unmatchedItems names) q ∙ k .1)
 
   profile-clear : (f : FieldSet) → Facts f (profileOf e (f .numbers .id)) → Clear (profileRows e (fieldPieces e f))
   unfolding fieldPieces
@@ -312,13 +312,13 @@ module _ (e : List Profile) (ok : sound e ≡ true) where
       let n = f .numbers in
       let r = profileOf e (n .id) in
       let q = read-as f r h in
-      let same-pieces : carried e (fieldPieces e f) ≡ fieldsFor r (n .id) (n .version) (fieldSlots r f) (writeBytes (f .salt)) (writeBytes (f .output)) =
+      let same-pieces : carried e (fieldPieces e f) ≡ fieldsFor r (n .id) (n .version) (fieldValues r f) (writeBytes (f .salt)) (writeBytes (f .output)) =
       λ i. fieldsFor (profileOf e (h .entry .found i)) (h .entry .found i) (h .version .reads i) (q .0 i) (writeBytes (f .salt)) (writeBytes (f .output)) in
-      let same-fields : fieldsFor r (n .id) (n .version) (fieldSlots r f) (writeBytes (f .salt)) (writeBytes (f .output)) ≡ f =
+      let same-fields : fieldsFor r (n .id) (n .version) (fieldValues r f) (writeBytes (f .salt)) (writeBytes (f .output)) ≡ f =
       λ i. record {
         numbers = record { id = n .id; version = n .version; m = h .m .reads i; t = h .t .reads i; p = h .p .reads i };
         keyid = h .keyid .reads i;
-        ad = h .ad .reads i;
+        «data» = h .«data» .reads i;
         salt = h .salt .reads i;
         output = h .output .reads i;
       } in
@@ -338,7 +338,7 @@ module _ (e : List Profile) (ok : sound e ≡ true) where
       let q = pieces-of f permitted in
       let g = subst (λ (p : Pieces). Clear (pieceRows p)) (sym q) (grammar-clear f h) in
       let k = subst (λ (p : Pieces). Clear (profileRows e p)) (sym q) (profile-clear f h) in
-      let w = whole-first s (omega arith) (at-most p (zero-of (pieceRows p) (grammar-clear f h))) in (
+      let w = bad-string-first s (omega arith) (at-most p (zero-of (pieceRows p) (grammar-clear f h))) in (
         zero-of (grammarRows s ++ profileRows e (pieces s)) (clear-append (grammarRows s) (profileRows e (pieces s)) (w, g) k),
         ap (carried e) q ∙ carried-back f h,
       )

@@ -15,7 +15,7 @@ use Rattle.profile.specs.Fields.{FieldSet, chosen, writeBytes}
 use Rattle.profile.specs.Reader.{answer, fieldsOf}
 use Rattle.profile.specs.Writer.{OfBytes, Permitted, formatted, shortFields, shortRefusal}
 use Rattle.profile.specs.Entries.{reading, decoded, writing, shortWriting, kindOf}
-use Rattle.profile.specs.Strings.{sixteen, extremes}
+use Rattle.profile.specs.Strings.{boundaryStrings, extremes}
 use Rattle.profile.specs.declared.fields.ByteString.{ByteString}
 
 -- demand 3, over the rules of an edition
@@ -89,6 +89,6 @@ pub record Lengths : Type 0 where
 
 -- document 01's strings have their numbers; and accepted hash strings reach the bounds on lengths
 pub record Examples : Type 0 where
-  pub numbers : map (λ (x : String × ℕ). answer editionTwo (text (x .0))) sixteen ≡ map (λ (x : String × ℕ). x .1) sixteen
+  pub numbers : map (λ (x : String × ℕ). answer editionTwo (text (x .0))) boundaryStrings ≡ map (λ (x : String × ℕ). x .1) boundaryStrings
   pub reached : map {B = ℕ × ℕ × ℕ} (λ (x : String × ℕ). (reading editionTwo (text (x .0)) .number, reading editionTwo (text (x .0)) .kind, length (text (x .0)))) extremes
       ≡ map (λ (x : String × ℕ). (0, 3, x .1)) extremes

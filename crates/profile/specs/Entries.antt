@@ -6,7 +6,7 @@ use mathlib.Core.List.{List}
 use mathlib.Core.Option.{none, some}
 use lib.Dec.{eqb}
 use Rattle.text.specs.Place.{Outcome, putAfter}
-use Rattle.grammar.specs.Pieces.{Slot, pieces}
+use Rattle.grammar.specs.Pieces.{OptionalText, pieces}
 use Rattle.table.specs.Limits.{Profile, profileOf}
 use Rattle.table.specs.declared.version.Version.{Version}
 use Rattle.table.specs.declared.version.Version.the-variants.{Absent, Number}
@@ -16,7 +16,7 @@ use Rattle.profile.specs.Writer.{refusal, formatted, shortFields, shortR
 use Rattle.profile.specs.declared.fields.Fields.{Fields}
 use Rattle.profile.specs.declared.fields.ByteString.{ByteString}
 use Rattle.profile.specs.declared.fields.Reading.{Reading}
-use Rattle.profile.specs.declared.fields.Meaning.{Meaning}
+use Rattle.profile.specs.declared.fields.AlgorithmVersion.{AlgorithmVersion}
 
 -- ---- the profile reader
 
@@ -28,7 +28,7 @@ abbrev pub refusedReading : ℕ → Reading
 refusedReading n = record { number = n; kind = 0; fields = noFields }
 
 -- 01's kind: 1 a parameter string, 2 a salt string, 3 a hash string
-abbrev pub kindOf : Slot → Slot → ℕ
+abbrev pub kindOf : OptionalText → OptionalText → ℕ
 kindOf none none = 1
 kindOf none (some o) = 3
 kindOf (some s) none = 2
@@ -43,16 +43,16 @@ reading e s =
 -- ---- which algorithm version is meant
 
 -- the number written; or what an absent one means
-abbrev pub meantVersion : ℕ → Version → ℕ
-meantVersion unwritten Absent = unwritten
-meantVersion unwritten (Number n) = n
+abbrev pub versionOr : ℕ → Version → ℕ
+versionOr implied Absent = implied
+versionOr implied (Number n) = n
 
-abbrev pub meaningOf : List Profile → Reading → Meaning
-meaningOf e r = record { number = r .number; version = meantVersion (profileOf e (r .fields .id) .unwritten) (r .fields .version) }
+abbrev pub algorithmVersionOf : List Profile → Reading → AlgorithmVersion
+algorithmVersionOf e r = record { number = r .number; version = versionOr (profileOf e (r .fields .id) .implied) (r .fields .version) }
 
 -- of a refused string the fields are all-zero, and so is the version
-unfoldable pub meaning : List Profile → List ℕ → Meaning
-meaning e s = meaningOf e (reading e s)
+unfoldable pub algorithmVersion : List Profile → List ℕ → AlgorithmVersion
+algorithmVersion e s = algorithmVersionOf e (reading e s)
 
 -- ---- the byte-string entry, the writer and the short writer
 

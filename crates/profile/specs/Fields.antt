@@ -11,12 +11,12 @@ use Rattle.b64.specs.B64.{canonical, decode, encode}
 use Rattle.decimal.specs.Decimal.{digits}
 use Rattle.decimal.specs.Numerals.{limitedReading, limitedNumber, limitedValue}
 use Rattle.decimal.specs.declared.reader.Limited.{Limited}
-use Rattle.grammar.specs.Pieces.{Slot}
+use Rattle.grammar.specs.Pieces.{OptionalText}
 use Rattle.grammar.specs.Rules.{versionReading}
-use Rattle.table.specs.Limits.{lowest, highest, given, leftOut, isSize}
+use Rattle.table.specs.Limits.{lowest, highest, defaultOf, isOmitted, isSize}
 use Rattle.table.specs.declared.limits.NumberRule.{NumberRule}
 use Rattle.table.specs.declared.limits.BytesRule.{BytesRule}
-use Rattle.table.specs.declared.limits.BytesRule.the-variants.{Sized, Barred}
+use Rattle.table.specs.declared.limits.BytesRule.the-variants.{Sized, Forbidden}
 use Rattle.table.specs.declared.version.Version.{Version}
 use Rattle.table.specs.declared.version.Version.the-variants.{Absent, Number}
 use Rattle.profile.specs.declared.fields.Fields.{Fields}
@@ -27,16 +27,16 @@ use Rattle.profile.specs.declared.fields.ByteString.the-variants.{Keyid,
 pub record FieldSet : Type 0 where
   pub numbers : Fields
   pub keyid : List ℕ
-  pub ad : List ℕ
+  pub «data» : List ℕ
   pub salt : List ℕ
   pub output : List ℕ
 
 abbrev pub fieldSet : Fields → List ℕ → List ℕ → List ℕ → List ℕ → FieldSet
-fieldSet numbers keyid ad salt output = record { numbers = numbers; keyid = keyid; ad = ad; salt = salt; output = output }
+fieldSet numbers keyid «data» salt output = record { numbers = numbers; keyid = keyid; «data» = «data»; salt = salt; output = output }
 
 abbrev pub chosen : ByteString → FieldSet → List ℕ
 chosen Keyid f = f .keyid
-chosen Data f = f .ad
+chosen Data f = f .«data»
 chosen Salt f = f .salt
 chosen Output f = f .output
 
@@ -50,24 +50,24 @@ abbrev pub isNumber : NumberRule → List ℕ → Bool
 isNumber r t = eqb (limitedNumber (numberReading r t)) 0
 
 -- as written or, where it is left out, what stands for it. Free answer: a number that is no parameter, which row 10 refuses before
-abbrev pub readNumber : NumberRule → Slot → ℕ
-readNumber r none = given r
+abbrev pub readNumber : NumberRule → OptionalText → ℕ
+readNumber r none = defaultOf r
 readNumber r (some t) = limitedValue (numberReading r t)
 
 -- written out, though it is to be left out
-abbrev pub writtenOut : NumberRule → Slot → Bool
+abbrev pub writtenOut : NumberRule → OptionalText → Bool
 writtenOut r none = false
-writtenOut r (some t) = leftOut r (readNumber r (some t))
+writtenOut r (some t) = isOmitted r (readNumber r (some t))
 
-abbrev pub writeNumber : NumberRule → ℕ → Slot
-writeNumber r n = cond (leftOut r n) none (some (digits n))
+abbrev pub writeNumber : NumberRule → ℕ → OptionalText
+writeNumber r n = cond (isOmitted r n) none (some (digits n))
 
 -- ---- one byte string
 
-abbrev pub misplacedBytes : BytesRule → Slot → Bool
+abbrev pub misplacedBytes : BytesRule → OptionalText → Bool
 misplacedBytes (Sized low high) s = false
-misplacedBytes Barred none = false
-misplacedBytes Barred (some t) = true
+misplacedBytes Forbidden none = false
+misplacedBytes Forbidden (some t) = true
 
 -- of a permitted length, in bytes
 abbrev pub isSized : BytesRule → List ℕ → Bool
@@ -76,20 +76,20 @@ isSized r t = isSize r (length (decode t))
 abbrev pub isBytes : BytesRule → List ℕ → Bool
 isBytes r t = canonical t && isSized r t
 
-abbrev pub readBytes : Slot → List ℕ
+abbrev pub readBytes : OptionalText → List ℕ
 readBytes none = []
 readBytes (some t) = decode t
 
-abbrev pub writeBytes : List ℕ → Slot
+abbrev pub writeBytes : List ℕ → OptionalText
 writeBytes [] = none
 writeBytes (b ∷ bs) = some (encode (b ∷ bs))
 
 -- ---- the version
 
-abbrev pub readVersion : Slot → Version
+abbrev pub readVersion : OptionalText → Version
 readVersion none = Absent
 readVersion (some s) = Number (limitedValue (versionReading s))
 
-abbrev pub writeVersion : Version → Slot
+abbrev pub writeVersion : Version → OptionalText
 writeVersion Absent = none
 writeVersion (Number n) = some (text "v=" ++ digits n)

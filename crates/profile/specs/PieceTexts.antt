@@ -7,18 +7,18 @@ use mathlib.Core.Option.{none, some}
 use lib.ListN.{length}
 use Rattle.text.specs.Text.{text}
 use Rattle.grammar.specs.Bytes.{dollar}
-use Rattle.grammar.specs.Pieces.{Slot}
+use Rattle.grammar.specs.Pieces.{OptionalText}
 use Rattle.table.specs.Limits.{Profile}
 use Rattle.profile.specs.Fields.{FieldSet, writeNumber, writeBytes, writeVersion}
 use Rattle.profile.specs.declared.fields.Fields.{Fields}
 
 -- a text that may not be there, with its tag before it
-abbrev pub tagged : List ℕ → Slot → List ℕ
+abbrev pub tagged : List ℕ → OptionalText → List ℕ
 tagged tag none = []
 tagged tag (some t) = tag ++ t
 
 -- its length, where the tag has so many bytes
-abbrev pub taggedLength : ℕ → Slot → ℕ
+abbrev pub taggedLength : ℕ → OptionalText → ℕ
 taggedLength tag none = 0
 taggedLength tag (some t) = tag + length t
 
@@ -31,10 +31,10 @@ costsText r n =
 
 -- and keyid and data
 abbrev pub itemsText : Profile → Fields → List ℕ → List ℕ → List ℕ
-itemsText r n keyid ad =
+itemsText r n keyid «data» =
     costsText r n
     ++ tagged (text ",keyid=") (writeBytes keyid)
-    ++ tagged (text ",data=") (writeBytes ad)
+    ++ tagged (text ",data=") (writeBytes «data»)
 
 -- a `$` in place of the first comma
 abbrev pub dollared : List ℕ → List ℕ
@@ -43,15 +43,15 @@ dollared (c ∷ s) = dollar ∷ s
 
 -- the pieces before the salt
 abbrev pub headText : Profile → Fields → List ℕ → List ℕ → List ℕ
-headText r n keyid ad =
+headText r n keyid «data» =
     (dollar ∷ r .name)
     ++ tagged (text "$") (writeVersion (n .version))
-    ++ dollared (itemsText r n keyid ad)
+    ++ dollared (itemsText r n keyid «data»)
 
 -- the whole string
 abbrev pub piecesText : Profile → FieldSet → List ℕ
 piecesText r f =
-    headText r (f .numbers) (f .keyid) (f .ad)
+    headText r (f .numbers) (f .keyid) (f .«data»)
     ++ tagged (text "$") (writeBytes (f .salt))
     ++ tagged (text "$") (writeBytes (f .output))
 
@@ -69,6 +69,6 @@ piecesLength r f =
     + taggedLength 1 (writeVersion (f .numbers .version))
     + costsLength r (f .numbers)
     + taggedLength 7 (writeBytes (f .keyid))
-    + taggedLength 6 (writeBytes (f .ad))
+    + taggedLength 6 (writeBytes (f .«data»))
     + taggedLength 1 (writeBytes (f .salt))
     + taggedLength 1 (writeBytes (f .output))

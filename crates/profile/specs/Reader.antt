@@ -5,9 +5,9 @@ use mathlib.Core.Bool.{Bool, not, _||_}
 use mathlib.Core.List.{List, [], _∷_, _++_}
 use mathlib.Core.Option.{Option, none, some}
 use lib.ListN.{getD}
-use Rattle.text.specs.Text.{text, same, empty, headIf, tailIf, broken}
+use Rattle.text.specs.Text.{text, same, empty, headIf, tailIf, violates}
 use Rattle.text.specs.Rows.{Row, row, firstOf}
-use Rattle.grammar.specs.Pieces.{Slot, Pieces, pieces}
+use Rattle.grammar.specs.Pieces.{OptionalText, Pieces, pieces}
 use Rattle.grammar.specs.Items.{Item, itemsOf}
 use Rattle.grammar.specs.Rules.{grammarRows}
 use Rattle.table.specs.Limits.{Profile, fewKilobytes, versionAllowed, idOf, profileOf, misplacedNumber}
@@ -24,71 +24,71 @@ names = text "m" ∷ text "t" ∷ text "p" ∷ text "keyid" ∷ text "data" ∷ 
 abbrev pub named : List ℕ → Item → Bool
 named n i = same (i .0) n
 
-abbrev pub itemValue : Option Item → Slot
+abbrev pub itemValue : Option Item → OptionalText
 itemValue none = none
 itemValue (some i) = some (i .1)
 
 -- the value of each name, as the items have them in order; and the items that are left
-abbrev pub slots : List (List ℕ) → List Item → List Slot
-slots [] is = []
-slots (n ∷ ns) is = itemValue (headIf (named n) is) ∷ slots ns (tailIf (named n) is)
+abbrev pub namedValues : List (List ℕ) → List Item → List OptionalText
+namedValues [] is = []
+namedValues (n ∷ ns) is = itemValue (headIf (named n) is) ∷ namedValues ns (tailIf (named n) is)
 
-abbrev pub strangers : List (List ℕ) → List Item → List Item
-strangers [] is = is
-strangers (n ∷ ns) is = strangers ns (tailIf (named n) is)
+abbrev pub unmatchedItems : List (List ℕ) → List Item → List Item
+unmatchedItems [] is = is
+unmatchedItems (n ∷ ns) is = unmatchedItems ns (tailIf (named n) is)
 
-abbrev pub slotAt : List Slot → ℕ → Slot
-slotAt vs k = getD vs k none
+abbrev pub valueAt : List OptionalText → ℕ → OptionalText
+valueAt vs k = getD vs k none
 
 -- ---- the rows, of the profile r and the values vs of the names
 
 -- names missing or unknown to the profile
-abbrev pub misplaced : Profile → List Slot → Bool
+abbrev pub misplaced : Profile → List OptionalText → Bool
 misplaced r vs =
-    misplacedNumber (r .m) (slotAt vs 0)
-    || misplacedNumber (r .t) (slotAt vs 1)
-    || misplacedNumber (r .p) (slotAt vs 2)
-    || misplacedBytes (r .keyid) (slotAt vs 3)
-    || misplacedBytes (r .ad) (slotAt vs 4)
+    misplacedNumber (r .m) (valueAt vs 0)
+    || misplacedNumber (r .t) (valueAt vs 1)
+    || misplacedNumber (r .p) (valueAt vs 2)
+    || misplacedBytes (r .keyid) (valueAt vs 3)
+    || misplacedBytes (r .«data») (valueAt vs 4)
 
 -- a number: not a permitted decimal, or out of range
-abbrev pub numberRow : NumberRule → Slot → List Row
-numberRow r s = row 11 (broken (isNumber r) s) ∷ []
+abbrev pub numberRow : NumberRule → OptionalText → List Row
+numberRow r s = row 11 (violates (isNumber r) s) ∷ []
 
 -- m, t and p, then m < 8p
-abbrev pub numberRows : Profile → List Slot → List Row
+abbrev pub numberRows : Profile → List OptionalText → List Row
 numberRows r vs =
-    numberRow (r .m) (slotAt vs 0)
-    ++ (numberRow (r .t) (slotAt vs 1)
-    ++ (numberRow (r .p) (slotAt vs 2)
-    ++ (row 11 (fewKilobytes (readNumber (r .m) (slotAt vs 0)) (readNumber (r .p) (slotAt vs 2))) ∷ [])))
+    numberRow (r .m) (valueAt vs 0)
+    ++ (numberRow (r .t) (valueAt vs 1)
+    ++ (numberRow (r .p) (valueAt vs 2)
+    ++ (row 11 (fewKilobytes (readNumber (r .m) (valueAt vs 0)) (readNumber (r .p) (valueAt vs 2))) ∷ [])))
 
 -- keyid and data, then a number written out
-abbrev pub spellingRows : Profile → List Slot → List Row
+abbrev pub spellingRows : Profile → List OptionalText → List Row
 spellingRows r vs =
-    row 12 (broken (isBytes (r .keyid)) (slotAt vs 3))
-    ∷ row 12 (broken (isBytes (r .ad)) (slotAt vs 4))
-    ∷ row 13 (writtenOut (r .m) (slotAt vs 0))
-    ∷ row 13 (writtenOut (r .t) (slotAt vs 1))
-    ∷ row 13 (writtenOut (r .p) (slotAt vs 2))
+    row 12 (violates (isBytes (r .keyid)) (valueAt vs 3))
+    ∷ row 12 (violates (isBytes (r .«data»)) (valueAt vs 4))
+    ∷ row 13 (writtenOut (r .m) (valueAt vs 0))
+    ∷ row 13 (writtenOut (r .t) (valueAt vs 1))
+    ∷ row 13 (writtenOut (r .p) (valueAt vs 2))
     ∷ []
 
 -- for the profile, the version, the values of the names, whether items are left, the salt and the output
-abbrev pub rowsFor : Profile → Version → List Slot → Bool → Slot → Slot → List Row
-rowsFor r v vs strange salt output =
+abbrev pub rowsFor : Profile → Version → List OptionalText → Bool → OptionalText → OptionalText → List Row
+rowsFor r v vs unmatched salt output =
     row 8 (not (r .known))
     ∷ row 9 (not (versionAllowed (r .versions) v))
-    ∷ row 10 (strange || misplaced r vs)
+    ∷ row 10 (unmatched || misplaced r vs)
     ∷ (numberRows r vs
     ++ (spellingRows r vs
-    ++ (row 14 (broken (isBytes (r .salt)) salt)
-    ∷ row 15 (broken (isSized (r .output)) output)
+    ++ (row 14 (violates (isBytes (r .salt)) salt)
+    ∷ row 15 (violates (isSized (r .output)) output)
     ∷ [])))
 
 abbrev pub profileRows : List Profile → Pieces → List Row
 profileRows e p =
     let is = itemsOf (p .params) in
-    rowsFor (profileOf e (idOf e (p .id))) (readVersion (p .version)) (slots names is) (not (empty (strangers names is))) (p .salt) (p .output)
+    rowsFor (profileOf e (idOf e (p .id))) (readVersion (p .version)) (namedValues names is) (not (empty (unmatchedItems names is))) (p .salt) (p .output)
 
 -- the reader's number: rows 1 to 7 are the grammar's. A string is accepted (01) where it is 0
 unfoldable pub answer : List Profile → List ℕ → ℕ
@@ -97,19 +97,19 @@ answer e s = firstOf (grammarRows s ++ profileRows e (pieces s))
 -- ---- the fields
 
 -- for the profile, the id's number, the version, the values of the names, the salt and the output
-abbrev pub fieldsFor : Profile → ℕ → Version → List Slot → Slot → Slot → FieldSet
+abbrev pub fieldsFor : Profile → ℕ → Version → List OptionalText → OptionalText → OptionalText → FieldSet
 fieldsFor r k v vs salt output =
     record {
       numbers =
           record {
             id = k;
             version = v;
-            m = readNumber (r .m) (slotAt vs 0);
-            t = readNumber (r .t) (slotAt vs 1);
-            p = readNumber (r .p) (slotAt vs 2);
+            m = readNumber (r .m) (valueAt vs 0);
+            t = readNumber (r .t) (valueAt vs 1);
+            p = readNumber (r .p) (valueAt vs 2);
           };
-      keyid = readBytes (slotAt vs 3);
-      ad = readBytes (slotAt vs 4);
+      keyid = readBytes (valueAt vs 3);
+      «data» = readBytes (valueAt vs 4);
       salt = readBytes salt;
       output = readBytes output;
     }
@@ -117,7 +117,7 @@ fieldsFor r k v vs salt output =
 abbrev pub carried : List Profile → Pieces → FieldSet
 carried e p =
     let k = idOf e (p .id) in
-    fieldsFor (profileOf e k) k (readVersion (p .version)) (slots names (itemsOf (p .params))) (p .salt) (p .output)
+    fieldsFor (profileOf e k) k (readVersion (p .version)) (namedValues names (itemsOf (p .params))) (p .salt) (p .output)
 
 -- the fields that an accepted string carries: what its pieces say
 unfoldable pub fieldsOf : List Profile → List ℕ → FieldSet

@@ -10,20 +10,20 @@ use Rattle.grammar.specs.Limits.{longestValue, longestOutput, largestVersion}
 use Rattle.grammar.specs.Rules.{isName}
 use Rattle.table.specs.Limits.{Profile, inRange, fewKilobytes, versionAllowed, idOf, largest32}
 use Rattle.table.specs.declared.limits.NumberRule.{NumberRule}
-use Rattle.table.specs.declared.limits.NumberRule.the-variants.{Needed, Omitted, Fixed}
+use Rattle.table.specs.declared.limits.NumberRule.the-variants.{Required, Defaulted, Constant}
 use Rattle.table.specs.declared.limits.BytesRule.{BytesRule}
-use Rattle.table.specs.declared.limits.BytesRule.the-variants.{Sized, Barred}
+use Rattle.table.specs.declared.limits.BytesRule.the-variants.{Sized, Forbidden}
 
 -- numbers of 32 bits; what is left out is permitted
 abbrev pub soundNumber : NumberRule → Bool
-soundNumber (Needed low high) = leb high largest32
-soundNumber (Omitted low high given) = leb high largest32 && within low high given
-soundNumber (Fixed given) = true
+soundNumber (Required low high) = leb high largest32
+soundNumber (Defaulted low high default) = leb high largest32 && within low high default
+soundNumber (Constant value) = true
 
 -- byte strings whose text has at most so many characters
 abbrev pub textWithin : ℕ → BytesRule → Bool
 textWithin most (Sized low high) = leb (charsOf (high .0)) most
-textWithin most Barred = true
+textWithin most Forbidden = true
 
 -- byte strings whose text the grammar takes as a value or a salt; and as an output
 abbrev pub soundBytes : BytesRule → Bool
@@ -43,17 +43,17 @@ soundAt e k r =
     && (isName (r .name)
     && (soundVersions (r .versions)
     && (soundNumber (r .m)
-    && (soundNumber (r .t) && (soundNumber (r .p) && (soundBytes (r .keyid) && (soundBytes (r .ad) && (soundBytes (r .salt) && soundOutput (r .output))))))))))
+    && (soundNumber (r .t) && (soundNumber (r .p) && (soundBytes (r .keyid) && (soundBytes (r .«data») && (soundBytes (r .salt) && soundOutput (r .output))))))))))
 
 unfoldable pub sound : List Profile → Bool
 sound e = every (soundAt e) 1 e
 
 -- the short writer's numbers are permitted
-abbrev pub usualAt : ℕ → Profile → Bool
-usualAt k r =
-    let u = r .usual in
+abbrev pub defaultsAt : ℕ → Profile → Bool
+defaultsAt k r =
+    let u = r .defaults in
     not (r .known) || (versionAllowed (r .versions) (u .version)
     && (inRange (r .m) (u .m) && (inRange (r .t) (u .t) && (inRange (r .p) (u .p) && not (fewKilobytes (u .m) (u .p))))))
 
-unfoldable pub usualSound : List Profile → Bool
-usualSound e = every usualAt 1 e
+unfoldable pub defaultsSound : List Profile → Bool
+defaultsSound e = every defaultsAt 1 e

@@ -5,8 +5,8 @@ use Prim.Native.Nat.{ℕ}
 use Prim.Native.String.{String}
 use mathlib.Core.List.{List, [], _∷_}
 
-abbrev pub sixteen : List (String × ℕ)
-sixteen =
+abbrev pub boundaryStrings : List (String × ℕ)
+boundaryStrings =
     ("$argon2i$m=120,t=5000,p=2$/LtFjH5rVL8", 0)
     ∷ ("$argon2i$m=120,t=5000,p=2,keyid=Hj5+dsK0ZQA", 0)
     ∷ ("$argon2j$m=120,t=5000,p=2", 8)

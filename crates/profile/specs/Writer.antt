@@ -8,7 +8,7 @@ use mathlib.Core.Option.{none, some}
 use lib.ListN.{length}
 use Rattle.text.specs.Text.{all, empty, isByte}
 use Rattle.text.specs.Rows.{Row, row, firstOf}
-use Rattle.grammar.specs.Pieces.{Slot, Pieces, string}
+use Rattle.grammar.specs.Pieces.{OptionalText, Pieces, string}
 use Rattle.grammar.specs.Items.{Item, paramsText}
 use Rattle.table.specs.Limits.{Profile, inRange, fewKilobytes, isSize, versionAllowed, profileOf}
 use Rattle.table.specs.declared.limits.BytesRule.{BytesRule}
@@ -25,7 +25,7 @@ bytesAllowed r bs = empty bs || isSize r (length bs)
 -- the four byte strings hold bytes
 abbrev pub OfBytes : FieldSet → Type 0
 OfBytes f =
-    (all isByte (f .keyid) ≡ true) × (all isByte (f .ad) ≡ true) × (all isByte (f .salt) ≡ true) × (all isByte (f .output) ≡ true)
+    (all isByte (f .keyid) ≡ true) × (all isByte (f .«data») ≡ true) × (all isByte (f .salt) ≡ true) × (all isByte (f .output) ≡ true)
 
 -- the column r allows the fields, whatever their byte strings hold
 pub record Allows (r : Profile) (f : FieldSet) : Type 0 where
@@ -36,7 +36,7 @@ pub record Allows (r : Profile) (f : FieldSet) : Type 0 where
   pub p : inRange (r .p) (f .numbers .p) ≡ true
   pub lanes : fewKilobytes (f .numbers .m) (f .numbers .p) ≡ false
   pub keyid : bytesAllowed (r .keyid) (f .keyid) ≡ true
-  pub ad : bytesAllowed (r .ad) (f .ad) ≡ true
+  pub «data» : bytesAllowed (r .«data») (f .«data») ≡ true
   pub salt : bytesAllowed (r .salt) (f .salt) ≡ true
   pub output : bytesAllowed (r .output) (f .output) ≡ true
   pub order : (empty (f .salt) && not (empty (f .output))) ≡ false
@@ -66,9 +66,9 @@ saltRows r salt output =
 
 -- keyid and data, then salt and output
 abbrev pub bytesRows : Profile → List ℕ → List ℕ → List ℕ → List ℕ → List Row
-bytesRows r keyid ad salt output =
+bytesRows r keyid «data» salt output =
     row 12 (not (bytesAllowed (r .keyid) keyid))
-    ∷ row 12 (not (bytesAllowed (r .ad) ad))
+    ∷ row 12 (not (bytesAllowed (r .«data») «data»))
     ∷ saltRows r salt output
 
 -- for the column r of the id
@@ -77,7 +77,7 @@ columnRows r f =
     row 8 (not (r .known))
     ∷ row 9 (not (versionAllowed (r .versions) (f .numbers .version)))
     ∷ (rangeRows r (f .numbers)
-    ++ bytesRows r (f .keyid) (f .ad) (f .salt) (f .output))
+    ++ bytesRows r (f .keyid) (f .«data») (f .salt) (f .output))
 
 abbrev pub writerRows : List Profile → FieldSet → List Row
 writerRows e f = columnRows (profileOf e (f .numbers .id)) f
@@ -89,23 +89,23 @@ refusal e f = firstOf (writerRows e f)
 -- ---- the string
 
 -- the item of a name, where it has a value
-abbrev pub item : List ℕ → Slot → List Item
+abbrev pub item : List ℕ → OptionalText → List Item
 item n none = []
 item n (some v) = (n, v) ∷ []
 
-abbrev pub itemList : List (List ℕ) → List Slot → List Item
+abbrev pub itemList : List (List ℕ) → List OptionalText → List Item
 itemList [] vs = []
 itemList (n ∷ ns) [] = []
 itemList (n ∷ ns) (v ∷ vs) = item n v ++ itemList ns vs
 
 -- the values of the names
-abbrev pub fieldSlots : Profile → FieldSet → List Slot
-fieldSlots r f =
+abbrev pub fieldValues : Profile → FieldSet → List OptionalText
+fieldValues r f =
     writeNumber (r .m) (f .numbers .m)
     ∷ writeNumber (r .t) (f .numbers .t)
     ∷ writeNumber (r .p) (f .numbers .p)
     ∷ writeBytes (f .keyid)
-    ∷ writeBytes (f .ad)
+    ∷ writeBytes (f .«data»)
     ∷ []
 
 unfoldable pub fieldPieces : List Profile → FieldSet → Pieces
@@ -114,7 +114,7 @@ fieldPieces e f =
     record {
       id = r .name;
       version = writeVersion (f .numbers .version);
-      params = paramsText (itemList names (fieldSlots r f));
+      params = paramsText (itemList names (fieldValues r f));
       salt = writeBytes (f .salt);
       output = writeBytes (f .output);
       more = [];
@@ -128,7 +128,7 @@ formatted e f = string (fieldPieces e f)
 
 unfoldable pub shortFields : List Profile → ℕ → List ℕ → List ℕ → FieldSet
 shortFields e k salt output =
-    let u = profileOf e k .usual in
+    let u = profileOf e k .defaults in
     fieldSet (record { id = k; version = u .version; m = u .m; t = u .t; p = u .p }) [] [] salt output
 
 abbrev pub shortRows : List Profile → ℕ → List ℕ → List ℕ → List Row

@@ -10,24 +10,24 @@ use text::units::Chars;
 ghost use Prim.Native.Nat.{ℕ};
 ghost use mathlib.Core.Path.{_≡_};
 ghost use mathlib.Core.List.{List};
-ghost use Rattle.text.specs.Text.{broken};
+ghost use Rattle.text.specs.Text.{violates};
 ghost use Rattle.profile.specs.Fields.{isSized, isBytes, misplacedBytes};
 ghost use Rattle.profile.specs.Writer.{bytesAllowed};
-ghost use Rattle.profile.specs.ReaderSteps.{slotIn};
+ghost use Rattle.profile.specs.ReaderSteps.{spanText};
 
 // There where it is no parameter. The text doesn't matter.
 pub fn misplaced_bytes(rule: BytesRule, span: Span) -> bool
-    ensures { λ r. ⌜ ((t : List ℕ) → r ≡ misplacedBytes rule (slotIn t span)) ⌝ }
+    ensures { λ r. ⌜ ((t : List ℕ) → r ≡ misplacedBytes rule (spanText t span)) ⌝ }
 {
     match rule {
         BytesRule::Sized { low: _, high: _ } => false,
-        BytesRule::Barred => span.at != 0,
+        BytesRule::Forbidden => span.at != 0,
     }
 }
 
 // There, and not of a permitted size.
 pub fn bad_size(rule: BytesRule, t: &[u8], span: Span) -> bool
-    ensures { λ r. ⌜ r ≡ broken (isSized rule) (slotIn (now (t .entry)) span) ⌝ }
+    ensures { λ r. ⌜ r ≡ violates (isSized rule) (spanText (now (t .entry)) span) ⌝ }
 {
     if span.at == 0 {
         return false;
@@ -38,7 +38,7 @@ pub fn bad_size(rule: BytesRule, t: &[u8], span: Span) -> bool
 
 // There, and not canonical or not of a permitted size.
 pub fn bad_bytes(rule: BytesRule, t: &[u8], span: Span) -> bool
-    ensures { λ r. ⌜ r ≡ broken (isBytes rule) (slotIn (now (t .entry)) span) ⌝ }
+    ensures { λ r. ⌜ r ≡ violates (isBytes rule) (spanText (now (t .entry)) span) ⌝ }
 {
     if span.at == 0 {
         return false;

@@ -26,7 +26,7 @@ pub struct Reading {
 }
 
 // Which algorithm version a string means: 0 and the version, or the refusal's number and 0.
-pub struct Meaning {
+pub struct AlgorithmVersion {
     pub number: u8,
     pub version: u32,
 }

@@ -25,7 +25,7 @@ ghost use mathlib.Core.List.{List};
 ghost use Rattle.text.specs.Rows.{firstOf};
 ghost use Rattle.table.specs.Columns.{profileIn};
 ghost use Rattle.profile.specs.Reader.{misplaced, numberRows, spellingRows, rowsFor};
-ghost use Rattle.profile.specs.ReaderSteps.{slotIn, slotsIn, NumbersAre, Judged};
+ghost use Rattle.profile.specs.ReaderSteps.{spanText, spanTexts, NumbersAre, Judged};
 
 // What the judge gives: the number of the row, 0 where none applies, and the numbers read.
 pub struct Judgement {
@@ -37,7 +37,7 @@ pub struct Judgement {
 
 // Names missing or unknown to the profile.
 fn is_misplaced(column: Column, values: Values) -> bool
-    ensures { λ r. ⌜ ((t : List ℕ) → r ≡ misplaced (profileIn column) (slotsIn t values)) ⌝ }
+    ensures { λ r. ⌜ ((t : List ℕ) → r ≡ misplaced (profileIn column) (spanTexts t values)) ⌝ }
 {
     let m = column.m;
     let m_span = values.m;
@@ -59,9 +59,9 @@ fn is_misplaced(column: Column, values: Values) -> bool
     if misplaced_bytes(keyid, keyid_span) {
         return true;
     }
-    let ad = column.ad;
-    let ad_span = values.ad;
-    misplaced_bytes(ad, ad_span)
+    let data = column.data;
+    let data_span = values.data;
+    misplaced_bytes(data, data_span)
 }
 
 fn refused(number: u8) -> Judgement
@@ -77,7 +77,7 @@ fn refused(number: u8) -> Judgement
 
 // m, t and p, then m < 8p: row 11.
 fn read_numbers(column: Column, params: &[u8], values: Values) -> Judgement
-    ensures { λ r. ⌜ Judged (numberRows (profileIn column) (slotsIn (now (params .entry)) values)) (profileIn column) (slotsIn (now (params .entry)) values) r ⌝ }
+    ensures { λ r. ⌜ Judged (numberRows (profileIn column) (spanTexts (now (params .entry)) values)) (profileIn column) (spanTexts (now (params .entry)) values) r ⌝ }
 {
     let m_rule = column.m;
     let m_span = values.m;
@@ -110,17 +110,17 @@ fn read_numbers(column: Column, params: &[u8], values: Values) -> Judgement
 
 // Rows 12 and 13.
 fn bytes_and_spelling(column: Column, params: &[u8], values: Values, n: Judgement) -> u8
-    requires { ⌜ NumbersAre (profileIn column) (slotsIn (now params) values) (n .m) (n .t) (n .p) ⌝ }
-    ensures { λ r. ⌜ r ≡ firstOf (spellingRows (profileIn column) (slotsIn (now (params .entry)) values)) ⌝ }
+    requires { ⌜ NumbersAre (profileIn column) (spanTexts (now params) values) (n .m) (n .t) (n .p) ⌝ }
+    ensures { λ r. ⌜ r ≡ firstOf (spellingRows (profileIn column) (spanTexts (now (params .entry)) values)) ⌝ }
 {
     let keyid = column.keyid;
     let keyid_span = values.keyid;
     if bad_bytes(keyid, params, keyid_span) {
         return WRONG_BYTES;
     }
-    let ad = column.ad;
-    let ad_span = values.ad;
-    if bad_bytes(ad, params, ad_span) {
+    let data = column.data;
+    let data_span = values.data;
+    if bad_bytes(data, params, data_span) {
         return WRONG_BYTES;
     }
     let m = column.m;
@@ -151,7 +151,7 @@ pub fn judge(
     salt: Span,
     output: Span,
 ) -> Judgement
-    ensures { λ r. ⌜ Judged (rowsFor (profileIn column) version (slotsIn (now (params .entry)) values) (values .strange) (slotIn (now (s .entry)) salt) (slotIn (now (s .entry)) output)) (profileIn column) (slotsIn (now (params .entry)) values) r ⌝ }
+    ensures { λ r. ⌜ Judged (rowsFor (profileIn column) version (spanTexts (now (params .entry)) values) (values .unmatched) (spanText (now (s .entry)) salt) (spanText (now (s .entry)) output)) (profileIn column) (spanTexts (now (params .entry)) values) r ⌝ }
 {
     if !column.known {
         return refused(UNKNOWN_ID);
@@ -160,7 +160,7 @@ pub fn judge(
     if !version_allowed(versions, version) {
         return refused(VERSION_NOT_PERMITTED);
     }
-    if values.strange {
+    if values.unmatched {
         return refused(WRONG_NAMES);
     }
     if is_misplaced(column, values) {

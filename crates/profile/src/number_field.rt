@@ -7,8 +7,8 @@ use decimal::reader::read_within;
 use grammar::places::Span;
 use grammar::places::part;
 use table::limits::NumberRule;
-use table::omitted::given_of;
-use table::omitted::left_out;
+use table::omitted::default_of;
+use table::omitted::is_omitted;
 use table::ranges::highest_of;
 use table::ranges::lowest_of;
 ghost use Prim.Native.Nat.{ℕ, _≤_};
@@ -22,7 +22,7 @@ ghost use Rattle.decimal.specs.Numerals.{limitedValue};
 ghost use Rattle.table.specs.Limits.{room, misplacedNumber};
 ghost use Rattle.profile.specs.Fields.{numberReading, readNumber, writtenOut, writeNumber};
 ghost use Rattle.profile.specs.Reader.{numberRow};
-ghost use Rattle.profile.specs.ReaderSteps.{slotIn};
+ghost use Rattle.profile.specs.ReaderSteps.{spanText};
 ghost use Rattle.profile.specs.PieceTexts.{tagged, taggedLength};
 
 // What was read: the number of the row that applies, 0 where none does, and the value.
@@ -33,16 +33,16 @@ pub struct Number {
 
 // Missing where it is needed, or there where it is no parameter. The text doesn't matter.
 pub fn misplaced_number(rule: NumberRule, span: Span) -> bool
-    ensures { λ r. ⌜ ((t : List ℕ) → r ≡ misplacedNumber rule (slotIn t span)) ⌝ }
+    ensures { λ r. ⌜ ((t : List ℕ) → r ≡ misplacedNumber rule (spanText t span)) ⌝ }
 {
     match rule {
-        NumberRule::Needed { low: _, high: _ } => span.at == 0,
-        NumberRule::Omitted {
+        NumberRule::Required { low: _, high: _ } => span.at == 0,
+        NumberRule::Defaulted {
             low: _,
             high: _,
-            given: _,
+            default: _,
         } => false,
-        NumberRule::Fixed { given: _ } => span.at != 0,
+        NumberRule::Constant { value: _ } => span.at != 0,
     }
 }
 
@@ -68,12 +68,12 @@ fn written(rule: NumberRule, text: &[u8]) -> Number
 
 // A number parameter: as written or, where it is left out, what its rule gives.
 pub fn read_number(rule: NumberRule, t: &[u8], span: Span) -> Number
-    ensures { λ r. ⌜ (r .number ≡ firstOf (numberRow rule (slotIn (now (t .entry)) span))) × (r .value ≡ readNumber rule (slotIn (now (t .entry)) span)) ⌝ }
+    ensures { λ r. ⌜ (r .number ≡ firstOf (numberRow rule (spanText (now (t .entry)) span))) × (r .value ≡ readNumber rule (spanText (now (t .entry)) span)) ⌝ }
 {
     if span.at == 0 {
         return Number {
             number: 0,
-            value: given_of(rule),
+            value: default_of(rule),
         };
     }
     written(rule, part(t, span))
@@ -81,12 +81,12 @@ pub fn read_number(rule: NumberRule, t: &[u8], span: Span) -> Number
 
 // Written out, though it is to be left out.
 pub fn written_out(rule: NumberRule, span: Span, value: u32) -> bool
-    ensures { λ r. ⌜ ((t : List ℕ) → value ≡ readNumber rule (slotIn t span) → r ≡ writtenOut rule (slotIn t span)) ⌝ }
+    ensures { λ r. ⌜ ((t : List ℕ) → value ≡ readNumber rule (spanText t span) → r ≡ writtenOut rule (spanText t span)) ⌝ }
 {
     if span.at == 0 {
         return false;
     }
-    left_out(rule, value)
+    is_omitted(rule, value)
 }
 
 // The length of a number after a tag of so many bytes; nothing where it is left out.
@@ -94,7 +94,7 @@ pub fn number_len(tag: usize, rule: NumberRule, n: u32) -> usize
     requires { ⌜ tag ≤ room ⌝ }
     ensures { λ r. ⌜ r ≡ taggedLength tag (writeNumber rule n) ⌝ }
 {
-    if left_out(rule, n) {
+    if is_omitted(rule, n) {
         return 0;
     }
     decimal_len(tag, n)
@@ -105,7 +105,7 @@ pub fn put_number(tag: &[u8], rule: NumberRule, n: u32, out: &mut [u8]) -> usize
     requires { ⌜ length (tagged (now tag) (writeNumber rule n)) ≤ length (now out) ⌝ }
     ensures { λ r. ⌜ Wrote (tagged (now (tag .entry)) (writeNumber rule n)) (now (out .entry)) (now (out .exit)) r ⌝ }
 {
-    if left_out(rule, n) {
+    if is_omitted(rule, n) {
         return 0;
     }
     put_decimal(tag, n, out)

@@ -1,7 +1,7 @@
 // The profile reader: kind and number fields of a string, or the number of the row that refuses it; and the byte-string entry.
 use crate::fields::ByteString;
 use crate::fields::Fields;
-use crate::fields::Meaning;
+use crate::fields::AlgorithmVersion;
 use crate::fields::Reading;
 use crate::judge::judge;
 use crate::values::Values;
@@ -31,12 +31,12 @@ ghost use Rattle.grammar.specs.Rules.{isItem, grammarNumber};
 ghost use Rattle.grammar.specs.Layout.{placesOf};
 ghost use Rattle.table.specs.Limits.{editionTwo};
 ghost use Rattle.profile.specs.Fields.{readVersion};
-ghost use Rattle.profile.specs.Entries.{refusedReading, kindOf, meantVersion, reading, meaning, decoded};
-ghost use Rattle.profile.specs.ReaderSteps.{slotIn, ValuesAre, chosenText, WholeIs};
+ghost use Rattle.profile.specs.Entries.{refusedReading, kindOf, versionOr, reading, algorithmVersion, decoded};
+ghost use Rattle.profile.specs.ReaderSteps.{spanText, ValuesAre, chosenText, ParsedIs};
 
 // All that one reading of a string finds: the answer, the places of its pieces, and where the values of the names stand in the parameter
 // piece.
-pub struct Whole {
+pub struct ParsedString {
     pub reading: Reading,
     pub places: Places,
     pub values: Values,
@@ -60,7 +60,7 @@ fn refused(number: u8) -> Reading
 
 // The version of a version piece that keeps its rule, or absent.
 fn version_in(s: &[u8], span: Span) -> Version
-    ensures { λ r. ⌜ r ≡ readVersion (slotIn (now (s .entry)) span) ⌝ }
+    ensures { λ r. ⌜ r ≡ readVersion (spanText (now (s .entry)) span) ⌝ }
 {
     if span.at == 0 {
         return Version::Absent;
@@ -74,7 +74,7 @@ fn version_in(s: &[u8], span: Span) -> Version
 
 // 1 a parameter string, 2 a salt string, 3 a hash string.
 fn kind_of(salt: Span, output: Span) -> u8
-    ensures { λ r. ⌜ ((s : List ℕ) → r ≡ kindOf (slotIn s salt) (slotIn s output)) ⌝ }
+    ensures { λ r. ⌜ ((s : List ℕ) → r ≡ kindOf (spanText s salt) (spanText s output)) ⌝ }
 {
     if output.at != 0 {
         return 3;
@@ -85,12 +85,12 @@ fn kind_of(salt: Span, output: Span) -> u8
     1
 }
 
-// The version that a version field means, where an absent one means `unwritten`.
-fn meant_version(unwritten: u32, version: Version) -> u32
-    ensures { λ r. ⌜ r ≡ meantVersion unwritten version ⌝ }
+// The version that a version field means, where an absent one means `implied`.
+fn version_or(implied: u32, version: Version) -> u32
+    ensures { λ r. ⌜ r ≡ versionOr implied version ⌝ }
 {
     match version {
-        Version::Absent => unwritten,
+        Version::Absent => implied,
         Version::Number(n) => n,
     }
 }
@@ -107,9 +107,9 @@ fn values_at(params: &[u8], there: bool) -> Values
 }
 
 // A string that the grammar accepts, with the places of its pieces.
-fn read_pieces(s: &[u8], places: Places) -> Whole
+fn read_pieces(s: &[u8], places: Places) -> ParsedString
     requires { ⌜ (grammarNumber (now s) ≡ 0) × (places ≡ placesOf (pieces (now s))) ⌝ }
-    ensures { λ r. ⌜ WholeIs (now (s .entry)) r ⌝ }
+    ensures { λ r. ⌜ ParsedIs (now (s .entry)) r ⌝ }
 {
     let id_span = places.id;
     let version_span = places.version;
@@ -122,13 +122,13 @@ fn read_pieces(s: &[u8], places: Places) -> Whole
     let values = values_at(params, params_span.at != 0);
     let j = judge(column_of(id), version, params, values, s, salt, output);
     if j.number != 0 {
-        return Whole {
+        return ParsedString {
             reading: refused(j.number),
             places,
             values,
         };
     }
-    Whole {
+    ParsedString {
         reading: Reading {
             number: 0,
             kind: kind_of(salt, output),
@@ -146,14 +146,14 @@ fn read_pieces(s: &[u8], places: Places) -> Whole
 }
 
 // One reading of any string.
-fn read_whole(s: &[u8]) -> Whole
-    ensures { λ r. ⌜ WholeIs (now (s .entry)) r ⌝ }
+fn parse(s: &[u8]) -> ParsedString
+    ensures { λ r. ⌜ ParsedIs (now (s .entry)) r ⌝ }
 {
     let layout = grammar::pieces::read(s);
     let places = layout.places;
     let number = layout.number;
     if number != 0 {
-        return Whole {
+        return ParsedString {
             reading: refused(number),
             places,
             values: no_values(),
@@ -166,28 +166,28 @@ fn read_whole(s: &[u8]) -> Whole
 pub fn read(s: &[u8]) -> Reading
     ensures { λ r. ⌜ r ≡ reading editionTwo (now (s .entry)) ⌝ }
 {
-    let whole = read_whole(s);
-    whole.reading
+    let parsed = parse(s);
+    parsed.reading
 }
 
 // The algorithm version that an accepted string means: the one written, or the profile's where none is written.
-pub fn algorithm_version(s: &[u8]) -> Meaning
-    ensures { λ r. ⌜ r ≡ meaning editionTwo (now (s .entry)) ⌝ }
+pub fn algorithm_version(s: &[u8]) -> AlgorithmVersion
+    ensures { λ r. ⌜ r ≡ algorithmVersion editionTwo (now (s .entry)) ⌝ }
 {
     let r = read(s);
     let number = r.number;
     let fields = r.fields;
     let version = fields.version;
     let column = column_of(fields.id);
-    Meaning {
+    AlgorithmVersion {
         number,
-        version: meant_version(column.unwritten, version),
+        version: version_or(column.implied, version),
     }
 }
 
 // The text at a span; empty where it is not there.
 fn text_at(t: &[u8], span: Span) -> &[u8]
-    ensures { λ r. ⌜ now r ≡ textOf (slotIn (now (t .entry)) span) ⌝ }
+    ensures { λ r. ⌜ now r ≡ textOf (spanText (now (t .entry)) span) ⌝ }
 {
     if span.at == 0 {
         return &t[0..0];
@@ -196,15 +196,15 @@ fn text_at(t: &[u8], span: Span) -> &[u8]
 }
 
 // The text of a byte string in what was read.
-fn text_of(s: &[u8], whole: Whole, choice: ByteString) -> &[u8]
-    ensures { λ r. ⌜ now r ≡ chosenText (now (s .entry)) whole choice ⌝ }
+fn text_of(s: &[u8], parsed: ParsedString, choice: ByteString) -> &[u8]
+    ensures { λ r. ⌜ now r ≡ chosenText (now (s .entry)) parsed choice ⌝ }
 {
-    let places = whole.places;
-    let values = whole.values;
+    let places = parsed.places;
+    let values = parsed.values;
     let params = places.params;
     match choice {
         ByteString::Keyid => text_at(part(s, params), values.keyid),
-        ByteString::Data => text_at(part(s, params), values.ad),
+        ByteString::Data => text_at(part(s, params), values.data),
         ByteString::Salt => text_at(s, places.salt),
         ByteString::Output => text_at(s, places.output),
     }
@@ -214,8 +214,8 @@ fn text_of(s: &[u8], whole: Whole, choice: ByteString) -> &[u8]
 pub fn byte_string(s: &[u8], choice: ByteString, buf: &mut [u8], at: usize) -> Decoded
     ensures { λ r. ⌜ outcome (r .number) (r .count .0) (now (buf .exit)) ≡ decoded editionTwo choice (now (s .entry)) (now (buf .entry)) at ⌝ }
 {
-    let whole = read_whole(s);
-    let reading = whole.reading;
+    let parsed = parse(s);
+    let reading = parsed.reading;
     let number = reading.number;
     if number != 0 {
         return Decoded {
@@ -223,5 +223,5 @@ pub fn byte_string(s: &[u8], choice: ByteString, buf: &mut [u8], at: usize) -> D
             count: Bytes(0),
         };
     }
-    decode(text_of(s, whole, choice), buf, at)
+    decode(text_of(s, parsed, choice), buf, at)
 }

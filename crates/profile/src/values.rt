@@ -13,14 +13,14 @@ ghost use Rattle.grammar.specs.Items.{items, itemsFrom};
 ghost use Rattle.grammar.specs.Rules.{isItem};
 ghost use Rattle.profile.specs.ReaderSteps.{ValueStep, ValuesAre};
 
-// A value that is not there has the span 0 and 0. `strange`: items are left that have no name of the five, or not in their order.
+// A value that is not there has the span 0 and 0. `unmatched`: items are left that have no name of the five, or not in their order.
 pub struct Values {
     pub m: Span,
     pub t: Span,
     pub p: Span,
     pub keyid: Span,
-    pub ad: Span,
-    pub strange: bool,
+    pub data: Span,
+    pub unmatched: bool,
 }
 
 pub struct Step {
@@ -68,19 +68,19 @@ pub fn values_in(params: &[u8]) -> Values
     let t = take_value(params, m.next, b"t");
     let p = take_value(params, t.next, b"p");
     let keyid = take_value(params, p.next, b"keyid");
-    let ad = take_value(params, keyid.next, b"data");
+    let data = take_value(params, keyid.next, b"data");
     let m_span = m.span;
     let t_span = t.span;
     let p_span = p.span;
     let keyid_span = keyid.span;
-    let ad_span = ad.span;
+    let data_span = data.span;
     Values {
         m: m_span,
         t: t_span,
         p: p_span,
         keyid: keyid_span,
-        ad: ad_span,
-        strange: ad.next <= params.len(),
+        data: data_span,
+        unmatched: data.next <= params.len(),
     }
 }
 
@@ -97,7 +97,7 @@ pub fn no_values() -> Values
         t: none,
         p: none,
         keyid: none,
-        ad: none,
-        strange: false,
+        data: none,
+        unmatched: false,
     }
 }

@@ -51,18 +51,18 @@ pub fn write(
 }
 
 // The number fields that the short writer uses.
-fn usual_fields(id: u8) -> Fields
+fn short_fields(id: u8) -> Fields
     ensures { λ r. ⌜ r ≡ shortFields editionTwo id [] [] .numbers ⌝ }
 {
     let column = column_of(id);
-    let usual = column.usual;
-    let version = usual.version;
+    let defaults = column.defaults;
+    let version = defaults.version;
     Fields {
         id,
         version,
-        m: usual.m,
-        t: usual.t,
-        p: usual.p,
+        m: defaults.m,
+        t: defaults.t,
+        p: defaults.p,
     }
 }
 
@@ -70,5 +70,5 @@ fn usual_fields(id: u8) -> Fields
 pub fn write_short(id: u8, salt: &[u8], output: &[u8], buf: &mut [u8], at: usize) -> Written
     ensures { λ r. ⌜ outcome (r .number) (r .count .0) (now (buf .exit)) ≡ shortWriting editionTwo id (now (salt .entry)) (now (output .entry)) (now (buf .entry)) at ⌝ }
 {
-    write(usual_fields(id), b"", b"", salt, output, buf, at)
+    write(short_fields(id), b"", b"", salt, output, buf, at)
 }

@@ -41,15 +41,15 @@ fn bad_numbers(column: Column, n: Fields) -> u8
 }
 
 // Rows 12 to 16: keyid, data, salt, output, then no output without a salt.
-fn bad_byte_strings(column: Column, keyid: &[u8], ad: &[u8], salt: &[u8], output: &[u8]) -> u8
-    ensures { λ r. ⌜ r ≡ firstOf (bytesRows (profileIn column) (now (keyid .entry)) (now (ad .entry)) (now (salt .entry)) (now (output .entry))) ⌝ }
+fn bad_byte_strings(column: Column, keyid: &[u8], data: &[u8], salt: &[u8], output: &[u8]) -> u8
+    ensures { λ r. ⌜ r ≡ firstOf (bytesRows (profileIn column) (now (keyid .entry)) (now («data» .entry)) (now (salt .entry)) (now (output .entry))) ⌝ }
 {
     let keyid_rule = column.keyid;
     if !bytes_allowed(keyid_rule, keyid) {
         return WRONG_BYTES;
     }
-    let ad_rule = column.ad;
-    if !bytes_allowed(ad_rule, ad) {
+    let data_rule = column.data;
+    if !bytes_allowed(data_rule, data) {
         return WRONG_BYTES;
     }
     let salt_rule = column.salt;
@@ -74,11 +74,11 @@ pub fn refusal_of(
     column: Column,
     n: Fields,
     keyid: &[u8],
-    ad: &[u8],
+    data: &[u8],
     salt: &[u8],
     output: &[u8],
 ) -> u8
-    ensures { λ r. ⌜ r ≡ firstOf (columnRows (profileIn column) (fieldSet n (now (keyid .entry)) (now (ad .entry)) (now (salt .entry)) (now (output .entry)))) ⌝ }
+    ensures { λ r. ⌜ r ≡ firstOf (columnRows (profileIn column) (fieldSet n (now (keyid .entry)) (now («data» .entry)) (now (salt .entry)) (now (output .entry)))) ⌝ }
 {
     if !column.known {
         return UNKNOWN_ID;
@@ -92,5 +92,5 @@ pub fn refusal_of(
     if number != 0 {
         return number;
     }
-    bad_byte_strings(column, keyid, ad, salt, output)
+    bad_byte_strings(column, keyid, data, salt, output)
 }

@@ -34,12 +34,12 @@ pub fn string_len(
     column: Column,
     n: Fields,
     keyid: &[u8],
-    ad: &[u8],
+    data: &[u8],
     salt: &[u8],
     output: &[u8],
 ) -> usize
-    requires { ⌜ piecesLength (profileIn column) (fieldSet n (now keyid) (now ad) (now salt) (now output)) ≤ room ⌝ }
-    ensures { λ r. ⌜ r ≡ piecesLength (profileIn column) (fieldSet n (now (keyid .entry)) (now (ad .entry)) (now (salt .entry)) (now (output .entry))) ⌝ }
+    requires { ⌜ piecesLength (profileIn column) (fieldSet n (now keyid) (now «data») (now salt) (now output)) ≤ room ⌝ }
+    ensures { λ r. ⌜ r ≡ piecesLength (profileIn column) (fieldSet n (now (keyid .entry)) (now («data» .entry)) (now (salt .entry)) (now (output .entry))) ⌝ }
 {
     let version = n.version;
     1
@@ -47,7 +47,7 @@ pub fn string_len(
         + version_len(version)
         + costs_len(column, n)
         + bytes_len(7, keyid)
-        + bytes_len(6, ad)
+        + bytes_len(6, data)
         + bytes_len(1, salt)
         + bytes_len(1, output)
 }
@@ -66,21 +66,21 @@ fn put_costs(column: Column, n: Fields, out: &mut [u8]) -> usize
 }
 
 // The items, each with a comma before it.
-fn put_items(column: Column, n: Fields, keyid: &[u8], ad: &[u8], out: &mut [u8]) -> usize
-    requires { ⌜ length (itemsText (profileIn column) n (now keyid) (now ad)) ≤ length (now out) ⌝ }
-    ensures { λ r. ⌜ Wrote (itemsText (profileIn column) n (now (keyid .entry)) (now (ad .entry))) (now (out .entry)) (now (out .exit)) r ⌝ }
+fn put_items(column: Column, n: Fields, keyid: &[u8], data: &[u8], out: &mut [u8]) -> usize
+    requires { ⌜ length (itemsText (profileIn column) n (now keyid) (now «data»)) ≤ length (now out) ⌝ }
+    ensures { λ r. ⌜ Wrote (itemsText (profileIn column) n (now (keyid .entry)) (now («data» .entry))) (now (out .entry)) (now (out .exit)) r ⌝ }
 {
     let after_costs = put_costs(column, n, out);
     let after_keyid = after_costs + put_bytes(b",keyid=", keyid, &mut out[after_costs..]);
-    after_keyid + put_bytes(b",data=", ad, &mut out[after_keyid..])
+    after_keyid + put_bytes(b",data=", data, &mut out[after_keyid..])
 }
 
 // The parameter piece with its `$`, or nothing: the `$` stands where the first comma stood.
-fn put_params(column: Column, n: Fields, keyid: &[u8], ad: &[u8], out: &mut [u8]) -> usize
-    requires { ⌜ length (dollared (itemsText (profileIn column) n (now keyid) (now ad))) ≤ length (now out) ⌝ }
-    ensures { λ r. ⌜ Wrote (dollared (itemsText (profileIn column) n (now (keyid .entry)) (now (ad .entry)))) (now (out .entry)) (now (out .exit)) r ⌝ }
+fn put_params(column: Column, n: Fields, keyid: &[u8], data: &[u8], out: &mut [u8]) -> usize
+    requires { ⌜ length (dollared (itemsText (profileIn column) n (now keyid) (now «data»))) ≤ length (now out) ⌝ }
+    ensures { λ r. ⌜ Wrote (dollared (itemsText (profileIn column) n (now (keyid .entry)) (now («data» .entry)))) (now (out .entry)) (now (out .exit)) r ⌝ }
 {
-    let count = put_items(column, n, keyid, ad, out);
+    let count = put_items(column, n, keyid, data, out);
     if count == 0 {
         return 0;
     }
@@ -89,14 +89,14 @@ fn put_params(column: Column, n: Fields, keyid: &[u8], ad: &[u8], out: &mut [u8]
 }
 
 // Id, version and parameters.
-fn put_head(column: Column, n: Fields, keyid: &[u8], ad: &[u8], out: &mut [u8]) -> usize
-    requires { ⌜ length (headText (profileIn column) n (now keyid) (now ad)) ≤ length (now out) ⌝ }
-    ensures { λ r. ⌜ Wrote (headText (profileIn column) n (now (keyid .entry)) (now (ad .entry))) (now (out .entry)) (now (out .exit)) r ⌝ }
+fn put_head(column: Column, n: Fields, keyid: &[u8], data: &[u8], out: &mut [u8]) -> usize
+    requires { ⌜ length (headText (profileIn column) n (now keyid) (now «data»)) ≤ length (now out) ⌝ }
+    ensures { λ r. ⌜ Wrote (headText (profileIn column) n (now (keyid .entry)) (now («data» .entry))) (now (out .entry)) (now (out .exit)) r ⌝ }
 {
     let version = n.version;
     let after_id = put_name(column.name, out);
     let after_version = after_id + put_version(version, &mut out[after_id..]);
-    after_version + put_params(column, n, keyid, ad, &mut out[after_version..])
+    after_version + put_params(column, n, keyid, data, &mut out[after_version..])
 }
 
 // The whole string: each piece is lent what is left of the buffer.
@@ -104,15 +104,15 @@ pub fn put_string(
     column: Column,
     n: Fields,
     keyid: &[u8],
-    ad: &[u8],
+    data: &[u8],
     salt: &[u8],
     output: &[u8],
     out: &mut [u8],
 ) -> usize
-    requires { ⌜ length (piecesText (profileIn column) (fieldSet n (now keyid) (now ad) (now salt) (now output))) ≤ length (now out) ⌝ }
-    ensures { λ r. ⌜ Wrote (piecesText (profileIn column) (fieldSet n (now (keyid .entry)) (now (ad .entry)) (now (salt .entry)) (now (output .entry)))) (now (out .entry)) (now (out .exit)) r ⌝ }
+    requires { ⌜ length (piecesText (profileIn column) (fieldSet n (now keyid) (now «data») (now salt) (now output))) ≤ length (now out) ⌝ }
+    ensures { λ r. ⌜ Wrote (piecesText (profileIn column) (fieldSet n (now (keyid .entry)) (now («data» .entry)) (now (salt .entry)) (now (output .entry)))) (now (out .entry)) (now (out .exit)) r ⌝ }
 {
-    let after_head = put_head(column, n, keyid, ad, out);
+    let after_head = put_head(column, n, keyid, data, out);
     let after_salt = after_head + put_bytes(b"$", salt, &mut out[after_head..]);
     after_salt + put_bytes(b"$", output, &mut out[after_salt..])
 }

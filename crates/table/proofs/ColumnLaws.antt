@@ -12,14 +12,14 @@ use lib.Seq.{drop-cons}
 use Rattle.text.specs.Text.{same}
 use Rattle.text.proofs.Table.{tabulate, tabulated}
 use Rattle.grammar.specs.Parts.{partAt}
-use Rattle.table.specs.Limits.{Profile, nobody, argon2, pbkdf2, profileOf, next, idOf, isNamed, editionTwo}
+use Rattle.table.specs.Limits.{Profile, noProfile, argon2, pbkdf2, profileOf, next, idOf, isNamed, editionTwo}
 use Rattle.table.specs.Columns.{nameIn, nameAt, nameIndex}
 
 -- the entry of a number, as the code chooses it
 abbrev entryAt : ℕ → Profile
-entryAt k = cond (ltb k 1) nobody (cond (ltb k 4) (argon2 (nameAt k)) (cond (ltb k 6) (pbkdf2 (nameAt k)) nobody))
+entryAt k = cond (ltb k 1) noProfile (cond (ltb k 4) (argon2 (nameAt k)) (cond (ltb k 6) (pbkdf2 (nameAt k)) noProfile))
 
-table-test : tabulate entryAt 0 6 ≡ nobody ∷ editionTwo
+table-test : tabulate entryAt 0 6 ≡ noProfile ∷ editionTwo
 unfolding editionTwo nameIn partAt
 table-test = refl
 
@@ -29,11 +29,11 @@ unfolding nameIn partAt editionTwo
 none-named zero h = refl
 none-named (suc k) h = absurd (omega arith)
 
-entry-past : (k : ℕ) → 6 ≤ k → entryAt k ≡ nobody
+entry-past : (k : ℕ) → 6 ≤ k → entryAt k ≡ noProfile
 entry-past k h = rw (le-ltb k 1 (omega arith), le-ltb k 4 (omega arith), le-ltb k 6 h)
 
 entry-rule : (k : ℕ) → entryAt k ≡ profileOf editionTwo k
-entry-rule k = tabulated entryAt nobody 6 (nobody ∷ editionTwo) table-test entry-past k
+entry-rule k = tabulated entryAt noProfile 6 (noProfile ∷ editionTwo) table-test entry-past k
 
 -- ---- by the tests of the code
 
@@ -42,7 +42,7 @@ module _ (k : ℕ) where
   pub index-by : (r : Profile) → r ≡ profileOf editionTwo k → cond (r .known) k 0 ≡ nameIndex k
   index-by r e = ap (λ (r : Profile). cond (r .known) k 0) e
 
-  pub entry-none : k < 1 → nobody ≡ profileOf editionTwo k
+  pub entry-none : k < 1 → noProfile ≡ profileOf editionTwo k
   entry-none h = sym (rw (lt-ltb k 1 h)) ∙ entry-rule k
 
   pub entry-argon2 : 1 ≤ k → k < 4 → argon2 (nameAt k) ≡ profileOf editionTwo k
@@ -51,7 +51,7 @@ module _ (k : ℕ) where
   pub entry-pbkdf2 : 4 ≤ k → k < 6 → pbkdf2 (nameAt k) ≡ profileOf editionTwo k
   entry-pbkdf2 l h = sym (rw (le-ltb k 1 (omega arith), le-ltb k 4 l, lt-ltb k 6 h)) ∙ entry-rule k
 
-  pub entry-other : 6 ≤ k → nobody ≡ profileOf editionTwo k
+  pub entry-other : 6 ≤ k → noProfile ≡ profileOf editionTwo k
   entry-other h = sym (entry-past k h) ∙ entry-rule k
 
 -- ---- the number of an id text, index by index
@@ -60,7 +60,7 @@ module _ (k : ℕ) where
 pub name-rule : (k : ℕ) → k < 6 → profileOf editionTwo k .name ≡ nameAt k
 name-rule k h = ap (λ (r : Profile). r .name) (sym (entry-rule k)) ∙ rw (lt-ltb k 6 h) (go (ltb k 1) (ltb k 4) refl)
   where
-    go : (a b : Bool) → ltb k 1 ≡ a → cond a nobody (cond b (argon2 (nameAt k)) (pbkdf2 (nameAt k))) .name ≡ nameAt k
+    go : (a b : Bool) → ltb k 1 ≡ a → cond a noProfile (cond b (argon2 (nameAt k)) (pbkdf2 (nameAt k))) .name ≡ nameAt k
     go true b e = none-named k (ltb-true k 1 e)
     go false true e = refl
     go false false e = refl
@@ -94,7 +94,7 @@ module _ (s : List ℕ) where
   entries = refl
 
   step : (j : ℕ) → j < 5 → idFrom j s ≡ counted j (cond (isNamed s (profileOf editionTwo (suc j))) 1 (next (idOf (drop (suc j) editionTwo) s)))
-  step j h = ap (λ (l : List Profile). counted j (idOf l s)) (drop-cons editionTwo j nobody (omega (arith, entries)))
+  step j h = ap (λ (l : List Profile). counted j (idOf l s)) (drop-cons editionTwo j noProfile (omega (arith, entries)))
 
   pub id-here : (j : ℕ) → j < 5 → isNamed s (profileOf editionTwo (suc j)) ≡ true → idFrom j s ≡ suc j
   id-here j h e = step j h ∙ rw e (omega arith)

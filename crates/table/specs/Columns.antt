@@ -9,7 +9,7 @@ use lib.ListN.{length, getD, replicate}
 use Rattle.text.specs.Text.{concat}
 use Rattle.grammar.specs.Layout.{span}
 use Rattle.grammar.specs.Parts.{partAt}
-use Rattle.table.specs.Limits.{Profile, nobody, profileOf, editionTwo}
+use Rattle.table.specs.Limits.{Profile, noProfile, profileOf, editionTwo}
 use Rattle.table.specs.declared.limits.Versions.{Versions}
 use Rattle.table.specs.declared.limits.Versions.the-variants.{Never, Either}
 use Rattle.table.specs.declared.limits.Column.{Column}
@@ -22,7 +22,7 @@ nameSlot name = length name ∷ (name ++ replicate (8 - length name) 0)
 
 -- the bytes of the constant NAMES: the names in the order of their ids' numbers, an empty one before them
 abbrev pub nameTable : List ℕ
-nameTable = concat (map (λ (r : Profile). nameSlot (r .name)) (nobody ∷ editionTwo))
+nameTable = concat (map (λ (r : Profile). nameSlot (r .name)) (noProfile ∷ editionTwo))
 
 -- the name at an index of such a table; empty past the last
 unfoldable pub nameIn : List ℕ → ℕ → List ℕ
@@ -43,15 +43,15 @@ profileIn c =
       known = c .known;
       name = nameAt (c .name);
       versions = listed (c .versions);
-      unwritten = c .unwritten;
+      implied = c .implied;
       m = c .m;
       t = c .t;
       p = c .p;
       keyid = c .keyid;
-      ad = c .ad;
+      «data» = c .«data»;
       salt = c .salt;
       output = c .output;
-      usual = c .usual;
+      defaults = c .defaults;
     }
 
 -- the index of an id's name; 0, where the empty one stands, for a number that is no id's

@@ -7,66 +7,66 @@ use mathlib.Core.Option.{none, some}
 use lib.Dec.{ltb, eqb}
 use lib.ListN.{getD}
 use Rattle.text.specs.Text.{text, within, same, has}
-use Rattle.grammar.specs.Pieces.{Slot}
+use Rattle.grammar.specs.Pieces.{OptionalText}
 use Rattle.table.specs.declared.limits.NumberRule.{NumberRule}
-use Rattle.table.specs.declared.limits.NumberRule.the-variants.{Needed, Omitted, Fixed}
+use Rattle.table.specs.declared.limits.NumberRule.the-variants.{Required, Defaulted, Constant}
 use Rattle.table.specs.declared.limits.BytesRule.{BytesRule}
-use Rattle.table.specs.declared.limits.BytesRule.the-variants.{Sized, Barred}
-use Rattle.table.specs.declared.limits.Usual.{Usual}
+use Rattle.table.specs.declared.limits.BytesRule.the-variants.{Sized, Forbidden}
+use Rattle.table.specs.declared.limits.ShortDefaults.{ShortDefaults}
 use Rattle.table.specs.declared.version.Version.{Version}
 use Rattle.table.specs.declared.version.Version.the-variants.{Absent, Number}
 
 -- 01's profile, a column of its table. `ad` is its `data`, a reserved word here. Ids keep their numbers in every edition, so an entry says
--- whether its id is known. `versions` are those that may be written; in every profile a version may also be absent. `unwritten` is the
+-- whether its id is known. `versions` are those that may be written; in every profile a version may also be absent. `implied` is the
 -- algorithm version that a string without a version means
 pub record Profile : Type 0 where
   pub known : Bool
   pub name : List ℕ
   pub versions : List ℕ
-  pub unwritten : ℕ
+  pub implied : ℕ
   pub m : NumberRule
   pub t : NumberRule
   pub p : NumberRule
   pub keyid : BytesRule
-  pub ad : BytesRule
+  pub «data» : BytesRule
   pub salt : BytesRule
   pub output : BytesRule
-  pub usual : Usual
+  pub defaults : ShortDefaults
 
 -- ---- what an entry says of a number
 
 abbrev pub lowest : NumberRule → ℕ
-lowest (Needed low high) = low
-lowest (Omitted low high given) = low
-lowest (Fixed given) = given
+lowest (Required low high) = low
+lowest (Defaulted low high default) = low
+lowest (Constant value) = value
 
 abbrev pub highest : NumberRule → ℕ
-highest (Needed low high) = high
-highest (Omitted low high given) = high
-highest (Fixed given) = given
+highest (Required low high) = high
+highest (Defaulted low high default) = high
+highest (Constant value) = value
 
 abbrev pub inRange : NumberRule → ℕ → Bool
 inRange r n = within (lowest r) (highest r) n
 
 -- a number is missing where it is needed, or there where it is no parameter; the slot is its text, where there is one
-abbrev pub misplacedNumber : NumberRule → Slot → Bool
-misplacedNumber (Needed low high) none = true
-misplacedNumber (Needed low high) (some t) = false
-misplacedNumber (Omitted low high given) s = false
-misplacedNumber (Fixed given) none = false
-misplacedNumber (Fixed given) (some t) = true
+abbrev pub misplacedNumber : NumberRule → OptionalText → Bool
+misplacedNumber (Required low high) none = true
+misplacedNumber (Required low high) (some t) = false
+misplacedNumber (Defaulted low high default) s = false
+misplacedNumber (Constant value) none = false
+misplacedNumber (Constant value) (some t) = true
 
 -- what stands for one that is left out. Free answer: 0 for one that is needed
-abbrev pub given : NumberRule → ℕ
-given (Needed low high) = 0
-given (Omitted low high n) = n
-given (Fixed n) = n
+abbrev pub defaultOf : NumberRule → ℕ
+defaultOf (Required low high) = 0
+defaultOf (Defaulted low high n) = n
+defaultOf (Constant n) = n
 
 -- left out of the string: what an omitted one means, or no parameter
-abbrev pub leftOut : NumberRule → ℕ → Bool
-leftOut (Needed low high) n = false
-leftOut (Omitted low high given) n = eqb n given
-leftOut (Fixed given) n = true
+abbrev pub isOmitted : NumberRule → ℕ → Bool
+isOmitted (Required low high) n = false
+isOmitted (Defaulted low high default) n = eqb n default
+isOmitted (Constant value) n = true
 
 -- m < 8p: fewer than eight kilobytes for each lane
 abbrev pub fewKilobytes : ℕ → ℕ → Bool
@@ -76,7 +76,7 @@ fewKilobytes m p = ltb m (8 * p)
 
 abbrev pub isSize : BytesRule → ℕ → Bool
 isSize (Sized low high) n = within (low .0) (high .0) n
-isSize Barred n = false
+isSize Forbidden n = false
 
 -- absent, or one of those listed
 abbrev pub versionAllowed : List ℕ → Version → Bool
@@ -100,25 +100,25 @@ idOf [] s = 0
 idOf (r ∷ rs) s = cond (isNamed s r) 1 (next (idOf rs s))
 
 -- the entry of a number that is no id's
-abbrev pub nobody : Profile
-nobody =
+abbrev pub noProfile : Profile
+noProfile =
     record {
       known = false;
       name = [];
       versions = [];
-      unwritten = 0;
-      m = Fixed 0;
-      t = Fixed 0;
-      p = Fixed 0;
-      keyid = Barred;
-      ad = Barred;
-      salt = Barred;
-      output = Barred;
-      usual = record { version = Absent; m = 0; t = 0; p = 0 };
+      implied = 0;
+      m = Constant 0;
+      t = Constant 0;
+      p = Constant 0;
+      keyid = Forbidden;
+      «data» = Forbidden;
+      salt = Forbidden;
+      output = Forbidden;
+      defaults = record { version = Absent; m = 0; t = 0; p = 0 };
     }
 
 abbrev pub profileOf : List Profile → ℕ → Profile
-profileOf rs k = getD (nobody ∷ rs) k nobody
+profileOf rs k = getD (noProfile ∷ rs) k noProfile
 
 -- ---- the table
 
@@ -130,19 +130,19 @@ abbrev pub largest32 : ℕ
 largest32 = 4294967295
 
 -- the version that an Argon2 string without one means
-abbrev pub absentMeans : ℕ
-absentMeans = 19
+abbrev pub argon2Implied : ℕ
+argon2Implied = 19
 
 -- the short writer's numbers
-abbrev pub argon2Usual : Usual
-argon2Usual = record { version = Number 19; m = 65536; t = 2; p = 1 }
+abbrev pub argon2Defaults : ShortDefaults
+argon2Defaults = record { version = Number 19; m = 65536; t = 2; p = 1 }
 
 -- what an omitted t means for pbkdf2, and the short writer's t
-abbrev pub omittedT : ℕ
-omittedT = 20000
+abbrev pub defaultT : ℕ
+defaultT = 20000
 
-abbrev pub pbkdf2Usual : Usual
-pbkdf2Usual = record { version = Absent; m = 0; t = omittedT; p = 0 }
+abbrev pub pbkdf2Defaults : ShortDefaults
+pbkdf2Defaults = record { version = Absent; m = 0; t = defaultT; p = 0 }
 
 -- m by itself is at least 1; that it is at least 8p is a row of its own, after the three numbers
 abbrev pub argon2 : List ℕ → Profile
@@ -151,15 +151,15 @@ argon2 name =
       known = true;
       name = name;
       versions = 16 ∷ 19 ∷ [];
-      unwritten = absentMeans;
-      m = Needed 1 largest32;
-      t = Needed 1 largest32;
-      p = Needed 1 255;
+      implied = argon2Implied;
+      m = Required 1 largest32;
+      t = Required 1 largest32;
+      p = Required 1 255;
       keyid = sized 0 8;
-      ad = sized 0 32;
+      «data» = sized 0 32;
       salt = sized 8 48;
       output = sized 12 64;
-      usual = argon2Usual;
+      defaults = argon2Defaults;
     }
 
 abbrev pub pbkdf2 : List ℕ → Profile
@@ -168,15 +168,15 @@ pbkdf2 name =
       known = true;
       name = name;
       versions = [];
-      unwritten = 0;
-      m = Fixed 0;
-      t = Omitted 100 largest32 omittedT;
-      p = Fixed 0;
+      implied = 0;
+      m = Constant 0;
+      t = Defaulted 100 largest32 defaultT;
+      p = Constant 0;
       keyid = sized 0 8;
-      ad = Barred;
+      «data» = Forbidden;
       salt = sized 4 32;
       output = sized 12 64;
-      usual = pbkdf2Usual;
+      defaults = pbkdf2Defaults;
     }
 
 -- edition two: document 01's table

@@ -32,7 +32,7 @@ pub fn is_size(rule: BytesRule, size: Bytes) -> bool
             let n = size.0;
             low.0 <= n && n <= high.0
         }
-        BytesRule::Barred => false,
+        BytesRule::Forbidden => false,
     }
 }
 

@@ -2,16 +2,16 @@
 use crate::limits::BytesRule;
 use crate::limits::Column;
 use crate::limits::NumberRule;
-use crate::limits::Usual;
+use crate::limits::ShortDefaults;
 use crate::limits::Versions;
 use crate::version::Version;
 use text::units::Bytes;
 ghost use mathlib.Core.Path.{_≡_};
-ghost use Rattle.table.specs.Limits.{nobody as nobodyProfile, argon2 as argon2Profile, pbkdf2 as pbkdf2Profile, profileOf, editionTwo};
+ghost use Rattle.table.specs.Limits.{noProfile as noProfile, argon2 as argon2Profile, pbkdf2 as pbkdf2Profile, profileOf, editionTwo};
 ghost use Rattle.table.specs.Columns.{nameAt, profileIn, nameIndex};
 
 // The iterations of pbkdf2 where `t` is left out; the short writer's too.
-const OMITTED_T: u32 = 20000;
+const DEFAULT_T: u32 = 20000;
 
 fn sized(low: usize, high: usize) -> BytesRule
     ensures { λ r. ⌜ r ≡ BytesRule.Sized (record { 0 = low }) (record { 0 = high }) ⌝ }
@@ -29,21 +29,21 @@ fn argon2(name: usize) -> Column
         known: true,
         name,
         versions: Versions::Either(16, 19),
-        unwritten: 19,
-        m: NumberRule::Needed {
+        implied: 19,
+        m: NumberRule::Required {
             low: 1,
             high: u32::MAX,
         },
-        t: NumberRule::Needed {
+        t: NumberRule::Required {
             low: 1,
             high: u32::MAX,
         },
-        p: NumberRule::Needed { low: 1, high: 255 },
+        p: NumberRule::Required { low: 1, high: 255 },
         keyid: sized(0, 8),
-        ad: sized(0, 32),
+        data: sized(0, 32),
         salt: sized(8, 48),
         output: sized(12, 64),
-        usual: Usual {
+        defaults: ShortDefaults {
             version: Version::Number(19),
             m: 65536,
             t: 2,
@@ -59,45 +59,45 @@ fn pbkdf2(name: usize) -> Column
         known: true,
         name,
         versions: Versions::Never,
-        unwritten: 0,
-        m: NumberRule::Fixed { given: 0 },
-        t: NumberRule::Omitted {
+        implied: 0,
+        m: NumberRule::Constant { value: 0 },
+        t: NumberRule::Defaulted {
             low: 100,
             high: u32::MAX,
-            given: OMITTED_T,
+            default: DEFAULT_T,
         },
-        p: NumberRule::Fixed { given: 0 },
+        p: NumberRule::Constant { value: 0 },
         keyid: sized(0, 8),
-        ad: BytesRule::Barred,
+        data: BytesRule::Forbidden,
         salt: sized(4, 32),
         output: sized(12, 64),
-        usual: Usual {
+        defaults: ShortDefaults {
             version: Version::Absent,
             m: 0,
-            t: OMITTED_T,
+            t: DEFAULT_T,
             p: 0,
         },
     }
 }
 
-fn nobody() -> Column
-    ensures { λ r. ⌜ (profileIn r ≡ nobodyProfile) × (r .name ≡ 0) ⌝ }
+fn no_profile() -> Column
+    ensures { λ r. ⌜ (profileIn r ≡ noProfile) × (r .name ≡ 0) ⌝ }
 {
-    let none = NumberRule::Fixed { given: 0 };
-    let barred = BytesRule::Barred;
+    let none = NumberRule::Constant { value: 0 };
+    let forbidden = BytesRule::Forbidden;
     Column {
         known: false,
         name: 0,
         versions: Versions::Never,
-        unwritten: 0,
+        implied: 0,
         m: none,
         t: none,
         p: none,
-        keyid: barred,
-        ad: barred,
-        salt: barred,
-        output: barred,
-        usual: Usual {
+        keyid: forbidden,
+        data: forbidden,
+        salt: forbidden,
+        output: forbidden,
+        defaults: ShortDefaults {
             version: Version::Absent,
             m: 0,
             t: 0,
@@ -117,7 +117,7 @@ pub fn column_of(id: u8) -> Column
     ensures { λ r. ⌜ (profileIn r ≡ profileOf editionTwo id) × (r .name ≡ nameIndex id) ⌝ }
 {
     if id < 1 {
-        return nobody();
+        return no_profile();
     }
     if id < 4 {
         return argon2(index(id));
@@ -125,5 +125,5 @@ pub fn column_of(id: u8) -> Column
     if id < 6 {
         return pbkdf2(index(id));
     }
-    nobody()
+    no_profile()
 }

@@ -7,15 +7,15 @@ pub const ROOM: usize = 265;
 
 // A number. Needed: always written. Omitted: left out where it is `given`. Fixed: no parameter of this id, its number is `given`.
 pub enum NumberRule {
-    Needed { low: u32, high: u32 },
-    Omitted { low: u32, high: u32, given: u32 },
-    Fixed { given: u32 },
+    Required { low: u32, high: u32 },
+    Defaulted { low: u32, high: u32, default: u32 },
+    Constant { value: u32 },
 }
 
 // A byte string: of `low` to `high` bytes, left out where it is empty; or always empty.
 pub enum BytesRule {
     Sized { low: Bytes, high: Bytes },
-    Barred,
+    Forbidden,
 }
 
 // The versions that may be written: none, or one of two. A version may always be absent.
@@ -25,26 +25,26 @@ pub enum Versions {
 }
 
 // The numbers that the short writer uses.
-pub struct Usual {
+pub struct ShortDefaults {
     pub version: Version,
     pub m: u32,
     pub t: u32,
     pub p: u32,
 }
 
-// A column of document 01's table. `name` is an index into the names (src/names.rt), `unwritten` the algorithm version that a string
+// A column of document 01's table. `name` is an index into the names (src/names.rt), `implied` the algorithm version that a string
 // without a version means, `ad` the associated data, 01's `data`.
 pub struct Column {
     pub known: bool,
     pub name: usize,
     pub versions: Versions,
-    pub unwritten: u32,
+    pub implied: u32,
     pub m: NumberRule,
     pub t: NumberRule,
     pub p: NumberRule,
     pub keyid: BytesRule,
-    pub ad: BytesRule,
+    pub data: BytesRule,
     pub salt: BytesRule,
     pub output: BytesRule,
-    pub usual: Usual,
+    pub defaults: ShortDefaults,
 }

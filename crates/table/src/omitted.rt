@@ -2,49 +2,49 @@
 use crate::limits::NumberRule;
 ghost use mathlib.Core.Path.{_≡_};
 ghost use mathlib.Core.Option.{none};
-ghost use Rattle.table.specs.Limits.{misplacedNumber, given, leftOut};
+ghost use Rattle.table.specs.Limits.{misplacedNumber, defaultOf, isOmitted};
 
 // Whether it must stand there.
-pub fn is_needed(rule: NumberRule) -> bool
+pub fn is_required(rule: NumberRule) -> bool
     ensures { λ r. ⌜ r ≡ misplacedNumber rule none ⌝ }
 {
     match rule {
-        NumberRule::Needed { low: _, high: _ } => true,
-        NumberRule::Omitted {
+        NumberRule::Required { low: _, high: _ } => true,
+        NumberRule::Defaulted {
             low: _,
             high: _,
-            given: _,
+            default: _,
         } => false,
-        NumberRule::Fixed { given: _ } => false,
+        NumberRule::Constant { value: _ } => false,
     }
 }
 
 // The number that stands for one that is left out.
-pub fn given_of(rule: NumberRule) -> u32
-    ensures { λ r. ⌜ r ≡ given rule ⌝ }
+pub fn default_of(rule: NumberRule) -> u32
+    ensures { λ r. ⌜ r ≡ defaultOf rule ⌝ }
 {
     match rule {
-        NumberRule::Needed { low: _, high: _ } => 0,
-        NumberRule::Omitted {
+        NumberRule::Required { low: _, high: _ } => 0,
+        NumberRule::Defaulted {
             low: _,
             high: _,
-            given,
-        } => given,
-        NumberRule::Fixed { given } => given,
+            default,
+        } => default,
+        NumberRule::Constant { value } => value,
     }
 }
 
 // Left out of the string: what an omitted one means, or no parameter.
-pub fn left_out(rule: NumberRule, n: u32) -> bool
-    ensures { λ r. ⌜ r ≡ leftOut rule n ⌝ }
+pub fn is_omitted(rule: NumberRule, n: u32) -> bool
+    ensures { λ r. ⌜ r ≡ isOmitted rule n ⌝ }
 {
     match rule {
-        NumberRule::Needed { low: _, high: _ } => false,
-        NumberRule::Omitted {
+        NumberRule::Required { low: _, high: _ } => false,
+        NumberRule::Defaulted {
             low: _,
             high: _,
-            given,
-        } => n == given,
-        NumberRule::Fixed { given: _ } => true,
+            default,
+        } => n == default,
+        NumberRule::Constant { value: _ } => true,
     }
 }

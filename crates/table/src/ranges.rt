@@ -7,13 +7,13 @@ pub fn lowest_of(rule: NumberRule) -> u32
     ensures { λ r. ⌜ r ≡ lowest rule ⌝ }
 {
     match rule {
-        NumberRule::Needed { low, high: _ } => low,
-        NumberRule::Omitted {
+        NumberRule::Required { low, high: _ } => low,
+        NumberRule::Defaulted {
             low,
             high: _,
-            given: _,
+            default: _,
         } => low,
-        NumberRule::Fixed { given } => given,
+        NumberRule::Constant { value } => value,
     }
 }
 
@@ -21,12 +21,12 @@ pub fn highest_of(rule: NumberRule) -> u32
     ensures { λ r. ⌜ r ≡ highest rule ⌝ }
 {
     match rule {
-        NumberRule::Needed { low: _, high } => high,
-        NumberRule::Omitted {
+        NumberRule::Required { low: _, high } => high,
+        NumberRule::Defaulted {
             low: _,
             high,
-            given: _,
+            default: _,
         } => high,
-        NumberRule::Fixed { given } => given,
+        NumberRule::Constant { value } => value,
     }
 }

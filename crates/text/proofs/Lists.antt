@@ -13,7 +13,7 @@ use lib.ListN.{length, take, getD, set, drop}
 use borrow.Author.Tests.{eqb-true, eq-eqb}
 use native.Mathlib.Numerals.{add-one}
 use lib.Seq.{drop-cons, getD-set-same, drop-set-lt, lt-length-set}
-use Rattle.text.specs.Text.{all, has, same, empty, Parts, putByte, split, join, cutByte, cut, headIf, tailIf, listOf, Frees, Fails, Fits, broken}
+use Rattle.text.specs.Text.{all, has, same, empty, Parts, putByte, split, join, cutByte, cut, headIf, tailIf, listOf, Frees, Fails, Fits, violates}
 use Rattle.text.proofs.Tests.{both, and-true, neither, or-false, either, not-of-true}
 
 -- ---- emptiness
@@ -168,11 +168,11 @@ module _ {A : Type 0} (f : A → Bool) where
   tail-of (some x) l h = rw h
 
   -- what is taken passes
-  pub head-passes : (l : List A) → broken f (headIf f l) ≡ false
+  pub head-passes : (l : List A) → violates f (headIf f l) ≡ false
   head-passes [] = refl
   head-passes (x ∷ l) = go (f x) refl
     where
-      go : (b : Bool) → f x ≡ b → broken f (cond {A = Option A} b (some x) none) ≡ false
+      go : (b : Bool) → f x ≡ b → violates f (cond {A = Option A} b (some x) none) ≡ false
       go true e = not-of-true e
       go false e = refl
 

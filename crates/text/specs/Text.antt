@@ -157,6 +157,6 @@ andThen none f = none
 andThen (some x) f = f x
 
 -- present, and fails the test
-abbrev pub broken : {A : Type 0} → (A → Bool) → Option A → Bool
-broken ok none = false
-broken ok (some x) = not (ok x)
+abbrev pub violates : {A : Type 0} → (A → Bool) → Option A → Bool
+violates ok none = false
+violates ok (some x) = not (ok x)

@@ -1,7 +1,7 @@
 -- `fast_path::items::written_number` meets its contract. Assumes nothing.
 use mathlib.Core.Path.{sym, _∙_}
 use borrow.Author.Needs.{needs}
-use Rattle.fast_path.proofs.Chains.{number-outside, number-unwritten, number-written}
+use Rattle.fast_path.proofs.Chains.{number-outside, number-implied, number-written}
 use Rattle.fast_path.proofs.items.written_number.Statement.{statement}
 use Rattle.fast_path.proofs.items.written_number.Tie as tie
 
@@ -13,14 +13,14 @@ returns c =
     let i = c .before .before .before in
     let k = i .before .before in
     let h = rw (k .n .given .1) at (k .before .before .number .ensures) in
-    number-unwritten (k .before .before .before .before .args .rule) _ _ _ (h .0) (sym (i .in-range .ensures) ∙ c .before .before .if1 .taken) (sym (c .before .left-out .ensures) ∙ c .if2 .taken)
+    number-implied (k .before .before .before .before .args .rule) _ _ _ (h .0) (sym (i .in-range .ensures) ∙ c .before .before .if1 .taken) (sym (c .before .is-omitted .ensures) ∙ c .if2 .taken)
 
 returns-2 : tie.Need-returns-2
 returns-2 c =
     let i = c .before .before .before in
     let k = i .before .before in
     let h = rw (k .n .given .1) at (k .before .before .number .ensures) in
-    (number-written (k .before .before .before .before .args .rule) _ _ _ (h .0) (sym (i .in-range .ensures) ∙ c .before .before .if1 .taken) (sym (c .before .left-out .ensures) ∙ c .if2 .left), h .1)
+    (number-written (k .before .before .before .before .args .rule) _ _ _ (h .0) (sym (i .in-range .ensures) ∙ c .before .before .if1 .taken) (sym (c .before .is-omitted .ensures) ∙ c .if2 .left), h .1)
 
 returns-3 : tie.Need-returns-3
 returns-3 c = rw (rw (c .enum-told .given .1) at (c .before .before .number .ensures))

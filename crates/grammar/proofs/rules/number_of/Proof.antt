@@ -7,7 +7,7 @@ use denote.Ref.{now}
 use Rattle.text.specs.Text.{empty}
 use Rattle.text.specs.Rows.{Row, firstOf}
 use Rattle.grammar.specs.Pieces.{pieces}
-use Rattle.grammar.specs.Rules.{starts, pieceRows}
+use Rattle.grammar.specs.Rules.{beginsWithDollar, pieceRows}
 use Rattle.grammar.specs.Layout.{placesOf}
 use Rattle.grammar.specs.declared.sorting.Sorted.{Sorted}
 use Rattle.grammar.proofs.rules.number_of.Statement.{statement}
@@ -17,7 +17,7 @@ use Rattle.grammar.proofs.rules.number_of.Tie as tie
 abbrev rows : tie.Start → List Row
 rows a = pieceRows (pieces (now (a .args .s)))
 
-given : (a : tie.Start) → (starts (now (a .args .s)) ≡ true) × (a .args .sorted .places ≡ placesOf (pieces (now (a .args .s))))
+given : (a : tie.Start) → (beginsWithDollar (now (a .args .s)) ≡ true) × (a .args .sorted .places ≡ placesOf (pieces (now (a .args .s))))
 given a = (a .pre .0, ap (λ (x : Sorted). x .places) (a .pre .1))
 
 more : (a : tie.Start) → a .args .sorted .more ≡ not (empty (pieces (now (a .args .s)) .more))

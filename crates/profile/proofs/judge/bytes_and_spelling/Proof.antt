@@ -5,14 +5,14 @@ use mathlib.Core.Bool.{Bool}
 use mathlib.Core.List.{List, [], _∷_}
 use mathlib.Core.Path.{_≡_, sym, _∙_}
 use denote.Ref.{now}
-use Rattle.text.specs.Text.{broken}
+use Rattle.text.specs.Text.{violates}
 use Rattle.text.specs.Rows.{row, firstOf}
-use Rattle.grammar.specs.Pieces.{Slot}
+use Rattle.grammar.specs.Pieces.{OptionalText}
 use Rattle.table.specs.Limits.{Profile}
 use Rattle.table.specs.Columns.{profileIn}
 use Rattle.profile.specs.Fields.{isBytes, writtenOut}
-use Rattle.profile.specs.Reader.{slotAt, spellingRows}
-use Rattle.profile.specs.ReaderSteps.{slotsIn, NumbersAre}
+use Rattle.profile.specs.Reader.{valueAt, spellingRows}
+use Rattle.profile.specs.ReaderSteps.{spanTexts, NumbersAre}
 use Rattle.profile.proofs.judge.bytes_and_spelling.Statement.{statement}
 use Rattle.profile.proofs.judge.bytes_and_spelling.Tie as tie
 
@@ -20,27 +20,27 @@ use Rattle.profile.proofs.judge.bytes_and_spelling.Tie as tie
 abbrev entry : tie.Start → Profile
 entry a = profileIn (a .args .column)
 
-abbrev values : tie.Start → List Slot
-values a = slotsIn (now (a .args .params)) (a .args .values)
+abbrev values : tie.Start → List OptionalText
+values a = spanTexts (now (a .args .params)) (a .args .values)
 
 abbrev spelling : tie.Start → ℕ
 spelling a = firstOf (spellingRows (entry a) (values a))
 
-abbrev ad : tie.Start → Bool
-ad a = broken (isBytes (entry a .ad)) (slotAt (values a) 4)
+abbrev «data» : tie.Start → Bool
+«data» a = violates (isBytes (entry a .«data»)) (valueAt (values a) 4)
 
 abbrev m : tie.Start → Bool
-m a = writtenOut (entry a .m) (slotAt (values a) 0)
+m a = writtenOut (entry a .m) (valueAt (values a) 0)
 
 abbrev t : tie.Start → Bool
-t a = writtenOut (entry a .t) (slotAt (values a) 1)
+t a = writtenOut (entry a .t) (valueAt (values a) 1)
 
 abbrev p : tie.Start → Bool
-p a = writtenOut (entry a .p) (slotAt (values a) 2)
+p a = writtenOut (entry a .p) (valueAt (values a) 2)
 
 -- what is left of the rows past each test
 abbrev rest-1 : tie.Start → ℕ
-rest-1 a = firstOf (row 12 (ad a) ∷ row 13 (m a) ∷ row 13 (t a) ∷ row 13 (p a) ∷ [])
+rest-1 a = firstOf (row 12 («data» a) ∷ row 13 (m a) ∷ row 13 (t a) ∷ row 13 (p a) ∷ [])
 
 abbrev rest-2 : tie.Start → ℕ
 rest-2 a = firstOf (row 13 (m a) ∷ row 13 (t a) ∷ row 13 (p a) ∷ [])

@@ -8,38 +8,38 @@ use Rattle.table.specs.Columns.{profileIn}
 use Rattle.table.specs.Limits.{misplacedNumber}
 use Rattle.profile.specs.Fields.{misplacedBytes}
 use Rattle.profile.specs.Reader.{misplaced}
-use Rattle.profile.specs.ReaderSteps.{slotIn, slotsIn}
+use Rattle.profile.specs.ReaderSteps.{spanText, spanTexts}
 use Rattle.profile.proofs.judge.is_misplaced.Statement.{statement}
 use Rattle.profile.proofs.judge.is_misplaced.Tie as tie
 
 -- the tests over a text: all, and each
 abbrev tests : tie.Start → List ℕ → Bool
-tests a u = misplaced (profileIn (a .args .column)) (slotsIn u (a .args .values))
+tests a u = misplaced (profileIn (a .args .column)) (spanTexts u (a .args .values))
 
 abbrev t : tie.Start → List ℕ → Bool
-t a u = misplacedNumber (a .args .column .t) (slotIn u (a .args .values .t))
+t a u = misplacedNumber (a .args .column .t) (spanText u (a .args .values .t))
 
 abbrev p : tie.Start → List ℕ → Bool
-p a u = misplacedNumber (a .args .column .p) (slotIn u (a .args .values .p))
+p a u = misplacedNumber (a .args .column .p) (spanText u (a .args .values .p))
 
 abbrev keyid : tie.Start → List ℕ → Bool
-keyid a u = misplacedBytes (a .args .column .keyid) (slotIn u (a .args .values .keyid))
+keyid a u = misplacedBytes (a .args .column .keyid) (spanText u (a .args .values .keyid))
 
-abbrev ad : tie.Start → List ℕ → Bool
-ad a u = misplacedBytes (a .args .column .ad) (slotIn u (a .args .values .ad))
+abbrev «data» : tie.Start → List ℕ → Bool
+«data» a u = misplacedBytes (a .args .column .«data») (spanText u (a .args .values .«data»))
 
 -- what is left of the tests past each
 abbrev rest-1 : tie.Start → List ℕ → Bool
-rest-1 a u = t a u || p a u || keyid a u || ad a u
+rest-1 a u = t a u || p a u || keyid a u || «data» a u
 
 abbrev rest-2 : tie.Start → List ℕ → Bool
-rest-2 a u = p a u || keyid a u || ad a u
+rest-2 a u = p a u || keyid a u || «data» a u
 
 abbrev rest-3 : tie.Start → List ℕ → Bool
-rest-3 a u = keyid a u || ad a u
+rest-3 a u = keyid a u || «data» a u
 
 abbrev rest-4 : tie.Start → List ℕ → Bool
-rest-4 a u = ad a u
+rest-4 a u = «data» a u
 
 -- past each test that came out false
 past-1 : (c : tie.Else1) (u : List ℕ) → tests (c .before .before .before) u ≡ rest-1 (c .before .before .before) u

@@ -8,13 +8,13 @@ use lib.ListN.{drop}
 use denote.Ref.{now}
 use Rattle.text.specs.Rows.{Row, firstOf}
 use Rattle.text.proofs.Rows.{rows-stop, rows-next}
-use Rattle.grammar.specs.Pieces.{Slot}
+use Rattle.grammar.specs.Pieces.{OptionalText}
 use Rattle.table.specs.Limits.{Profile}
 use Rattle.table.specs.Columns.{profileIn}
 use Rattle.profile.specs.Reader.{misplaced, numberRows, spellingRows, rowsFor}
-use Rattle.profile.specs.ReaderSteps.{slotIn, slotsIn, NumbersAre, Judged}
+use Rattle.profile.specs.ReaderSteps.{spanText, spanTexts, NumbersAre, Judged}
 use Rattle.profile.specs.declared.judge.Judgement.{Judgement}
-use Rattle.profile.proofs.JudgeLaws.{ten-strange, ten-missing, ten-clear, judged-refused, judged-accepted, judged-before}
+use Rattle.profile.proofs.JudgeLaws.{ten-unmatched, ten-missing, ten-clear, judged-refused, judged-accepted, judged-before}
 use Rattle.profile.proofs.judge.judge.Statement.{statement}
 use Rattle.profile.proofs.judge.judge.Tie as tie
 
@@ -22,17 +22,17 @@ use Rattle.profile.proofs.judge.judge.Tie as tie
 abbrev entry : tie.Start → Profile
 entry a = profileIn (a .args .column)
 
-abbrev values : tie.Start → List Slot
-values a = slotsIn (now (a .args .params)) (a .args .values)
+abbrev values : tie.Start → List OptionalText
+values a = spanTexts (now (a .args .params)) (a .args .values)
 
-abbrev salt : tie.Start → Slot
-salt a = slotIn (now (a .args .s)) (a .args .salt)
+abbrev salt : tie.Start → OptionalText
+salt a = spanText (now (a .args .s)) (a .args .salt)
 
-abbrev output : tie.Start → Slot
-output a = slotIn (now (a .args .s)) (a .args .output)
+abbrev output : tie.Start → OptionalText
+output a = spanText (now (a .args .s)) (a .args .output)
 
 abbrev rows : tie.Start → List Row
-rows a = rowsFor (entry a) (a .args .version) (values a) (a .args .values .strange) (salt a) (output a)
+rows a = rowsFor (entry a) (a .args .version) (values a) (a .args .values .unmatched) (salt a) (output a)
 
 abbrev numbers : tie.Start → List Row
 numbers a = numberRows (entry a) (values a)
@@ -80,7 +80,7 @@ past-9 : (c : tie.Else2) → firstOf (rows (at-2 c)) ≡ firstOf (drop 2 (rows (
 past-9 c = past-8 (c .before .before) ∙ rw (← c .before .version-allowed .ensures, c .if2 .left)
 
 past-10 : (c : tie.Else4) → firstOf (rows (at-4 c)) ≡ firstOf (drop 3 (rows (at-4 c)))
-past-10 c = past-9 (c .before .before .before) ∙ ten-clear (at-4 c .args .values .strange) (misplaced (entry (at-4 c)) (values (at-4 c))) (drop 3 (rows (at-4 c))) (c .before .before .if3 .left) (sym (misplaced-is (c .before)) ∙ c .if4 .left)
+past-10 c = past-9 (c .before .before .before) ∙ ten-clear (at-4 c .args .values .unmatched) (misplaced (entry (at-4 c)) (values (at-4 c))) (drop 3 (rows (at-4 c))) (c .before .before .if3 .left) (sym (misplaced-is (c .before)) ∙ c .if4 .left)
 
 past-11 : (c : tie.Else5) → firstOf (rows (at-5 c)) ≡ firstOf (drop 7 (rows (at-5 c)))
 past-11 c =
@@ -114,12 +114,12 @@ returns-2 c =
 returns-3 : tie.Need-returns-3
 returns-3 c =
     let a = at-2 (c .before .before) in
-    refuse a (c .refused3 .result) 10 (c .refused3 .ensures) (past-9 (c .before .before) ∙ ten-strange (a .args .values .strange) (misplaced (entry a) (values a)) (drop 3 (rows a)) (c .before .if3 .taken)) (λ z. absurd (omega arith))
+    refuse a (c .refused3 .result) 10 (c .refused3 .ensures) (past-9 (c .before .before) ∙ ten-unmatched (a .args .values .unmatched) (misplaced (entry a) (values a)) (drop 3 (rows a)) (c .before .if3 .taken)) (λ z. absurd (omega arith))
 
 returns-4 : tie.Need-returns-4
 returns-4 c =
     let a = at-3 (c .before .before .before) in
-    refuse a (c .refused4 .result) 10 (c .refused4 .ensures) (past-9 (c .before .before .before .before) ∙ ten-missing (a .args .values .strange) (misplaced (entry a) (values a)) (drop 3 (rows a)) (c .before .before .before .if3 .left) (sym (misplaced-is (c .before .before)) ∙ c .before .if4 .taken)) (λ z. absurd (omega arith))
+    refuse a (c .refused4 .result) 10 (c .refused4 .ensures) (past-9 (c .before .before .before .before) ∙ ten-missing (a .args .values .unmatched) (misplaced (entry a) (values a)) (drop 3 (rows a)) (c .before .before .before .if3 .left) (sym (misplaced-is (c .before .before)) ∙ c .before .if4 .taken)) (λ z. absurd (omega arith))
 
 returns-5 : tie.Need-returns-5
 returns-5 c =

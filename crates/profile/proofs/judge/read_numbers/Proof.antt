@@ -7,12 +7,12 @@ use borrow.Author.Needs.{needs}
 use denote.Ref.{now}
 use Rattle.text.specs.Rows.{Row, row, firstOf}
 use Rattle.text.proofs.Rows.{rows-stop, rows-next}
-use Rattle.grammar.specs.Pieces.{Slot}
+use Rattle.grammar.specs.Pieces.{OptionalText}
 use Rattle.table.specs.Limits.{Profile, fewKilobytes}
 use Rattle.table.specs.Columns.{profileIn}
 use Rattle.profile.specs.Fields.{readNumber}
-use Rattle.profile.specs.Reader.{slotAt, numberRow, numberRows}
-use Rattle.profile.specs.ReaderSteps.{slotsIn, Judged}
+use Rattle.profile.specs.Reader.{valueAt, numberRow, numberRows}
+use Rattle.profile.specs.ReaderSteps.{spanTexts, Judged}
 use Rattle.profile.specs.declared.judge.Judgement.{Judgement}
 use Rattle.profile.proofs.JudgeLaws.{judged-refused, judged-accepted}
 use Rattle.profile.proofs.judge.read_numbers.Statement.{statement}
@@ -22,23 +22,23 @@ use Rattle.profile.proofs.judge.read_numbers.Tie as tie
 abbrev entry : tie.Start → Profile
 entry a = profileIn (a .args .column)
 
-abbrev values : tie.Start → List Slot
-values a = slotsIn (now (a .args .params)) (a .args .values)
+abbrev values : tie.Start → List OptionalText
+values a = spanTexts (now (a .args .params)) (a .args .values)
 
 abbrev rows : tie.Start → List Row
 rows a = numberRows (entry a) (values a)
 
 abbrev m-rows : tie.Start → List Row
-m-rows a = numberRow (entry a .m) (slotAt (values a) 0)
+m-rows a = numberRow (entry a .m) (valueAt (values a) 0)
 
 abbrev t-rows : tie.Start → List Row
-t-rows a = numberRow (entry a .t) (slotAt (values a) 1)
+t-rows a = numberRow (entry a .t) (valueAt (values a) 1)
 
 abbrev p-rows : tie.Start → List Row
-p-rows a = numberRow (entry a .p) (slotAt (values a) 2)
+p-rows a = numberRow (entry a .p) (valueAt (values a) 2)
 
 abbrev last : tie.Start → List Row
-last a = row 11 (fewKilobytes (readNumber (entry a .m) (slotAt (values a) 0)) (readNumber (entry a .p) (slotAt (values a) 2))) ∷ []
+last a = row 11 (fewKilobytes (readNumber (entry a .m) (valueAt (values a) 0)) (readNumber (entry a .p) (valueAt (values a) 2))) ∷ []
 
 -- where the function began, from each number
 abbrev at-m : tie.After-read-number → tie.Start

@@ -1,6 +1,6 @@
 -- `profile::number_field::misplaced_number` meets its contract. Assumes nothing.
 use borrow.Author.Needs.{needs}
-use Rattle.profile.proofs.FieldLaws.{missing-needed, there-fixed}
+use Rattle.profile.proofs.FieldLaws.{missing-required, there-constant}
 use Rattle.profile.proofs.number_field.misplaced_number.Statement.{statement}
 use Rattle.profile.proofs.number_field.misplaced_number.Tie as tie
 
@@ -8,13 +8,13 @@ enum-told : tie.Need-enum-told
 enum-told c = search needs
 
 returns : tie.Need-returns
-returns c = λ t. rw (c .before .enum-told .given .1) (missing-needed t (c .before .before .before .args .span) (c .before .enum-told .given .0 .0) (c .before .enum-told .given .0 .1 .0))
+returns c = λ t. rw (c .before .enum-told .given .1) (missing-required t (c .before .before .before .args .span) (c .before .enum-told .given .0 .0) (c .before .enum-told .given .0 .1 .0))
 
 returns-2 : tie.Need-returns-2
 returns-2 c = λ t. rw (c .enum-told2 .given .1)
 
 returns-3 : tie.Need-returns-3
-returns-3 c = λ t. rw (c .before .enum-told3 .given .1) (there-fixed t (c .before .before .before .args .span) (c .before .enum-told3 .given .0 .0))
+returns-3 c = λ t. rw (c .before .enum-told3 .given .1) (there-constant t (c .before .before .before .args .span) (c .before .enum-told3 .given .0 .0))
 
 pub misplaced-number-spec : {M : Type 1} → statement M
 misplaced-number-spec =

@@ -10,12 +10,12 @@ use Rattle.profile.proofs.number_field.put_number.Statement.{statement}
 use Rattle.profile.proofs.number_field.put_number.Tie as tie
 
 there : (c : tie.Else1) → let a = c .before .before .before .before .args in writeNumber (a .rule) (a .n) ≡ some (digits (a .n))
-there c = rw (← c .before .left-out .ensures, c .if1 .left)
+there c = rw (← c .before .is-omitted .ensures, c .if1 .left)
 
 returns : tie.Need-returns
 returns c =
     let a = c .before .before .before .before .args in
-    rw (← c .before .left-out .ensures, c .if1 .taken) (wrote-nothing (now (a .out)))
+    rw (← c .before .is-omitted .ensures, c .if1 .taken) (wrote-nothing (now (a .out)))
 
 put-decimal-requires : tie.Need-put-decimal-requires
 put-decimal-requires c κs = rw (there (c .before)) at (c .before .before .before .before .before .pre)

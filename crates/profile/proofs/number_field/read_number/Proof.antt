@@ -10,14 +10,14 @@ use Rattle.decimal.specs.Numerals.{limitedValue}
 use Rattle.profile.specs.Fields.{numberReading}
 use Rattle.profile.specs.Reader.{numberRow}
 use Rattle.profile.proofs.FieldLaws.{number-there}
-use Rattle.profile.proofs.SlotLaws.{slot-none}
+use Rattle.profile.proofs.OptionalTextLaws.{optional-none}
 use Rattle.profile.proofs.number_field.read_number.Statement.{statement}
 use Rattle.profile.proofs.number_field.read_number.Tie as tie
 
 returns : tie.Need-returns
 returns c =
     let a = c .before .before .before .before .args in
-    rw (slot-none (now (a .t)) (a .span) (c .before .if1 .taken)) (refl, c .given-of .ensures)
+    rw (optional-none (now (a .t)) (a .span) (c .before .if1 .taken)) (refl, c .default-of .ensures)
 
 returns-2 : tie.Need-returns-2
 returns-2 c =

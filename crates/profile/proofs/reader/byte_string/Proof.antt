@@ -10,7 +10,7 @@ returns : tie.Need-returns
 returns c =
     let w = c .before .before in
     let a = w .before .before .before .args in
-    bytes-refused (now (a .s)) (w .read-whole .result) (w .read-whole .ensures) (a .choice) (now (a .buf)) (a .at) (c .if1 .taken)
+    bytes-refused (now (a .s)) (w .parse .result) (w .parse .ensures) (a .choice) (now (a .buf)) (a .at) (c .if1 .taken)
 
 returns-2 : tie.Need-returns-2
 returns-2 c =
@@ -19,7 +19,7 @@ returns-2 c =
     let w = t .before .before .before in
     let a = w .before .before .before .args in
     d .decode .ensures
-    ∙ bytes-decoded (now (a .s)) (w .read-whole .result) (w .read-whole .ensures) (a .choice) (now (a .buf)) (a .at) (t .before .if1 .left) (now (t .text-of .result)) (t .text-of .ensures)
+    ∙ bytes-decoded (now (a .s)) (w .parse .result) (w .parse .ensures) (a .choice) (now (a .buf)) (a .at) (t .before .if1 .left) (now (t .text-of .result)) (t .text-of .ensures)
 
 pub byte-string-spec : {M : Type 1} → statement M
 byte-string-spec =

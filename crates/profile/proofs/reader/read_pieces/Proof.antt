@@ -12,10 +12,10 @@ use Rattle.table.specs.Limits.{Profile, idOf, profileOf, editionTwo}
 use Rattle.table.specs.Columns.{profileIn}
 use Rattle.table.specs.declared.version.Version.{Version}
 use Rattle.profile.specs.Reader.{rowsFor}
-use Rattle.profile.specs.ReaderSteps.{slotIn, slotsIn, ValuesAre, Judged}
+use Rattle.profile.specs.ReaderSteps.{spanText, spanTexts, ValuesAre, Judged}
 use Rattle.profile.specs.declared.fields.Reading.{Reading}
 use Rattle.profile.specs.declared.values.Values.{Values}
-use Rattle.profile.proofs.ReadLaws.{part-items, Found, found, judged-number, accepted-reading, accepted-texts, reading-refused, whole-refused}
+use Rattle.profile.proofs.ReadLaws.{part-items, Found, found, judged-number, accepted-reading, accepted-texts, reading-refused, parsed-refused}
 use Rattle.profile.proofs.reader.read_pieces.Statement.{statement}
 use Rattle.profile.proofs.reader.read_pieces.Tie as tie
 
@@ -51,17 +51,17 @@ seen j =
 said : (j : tie.After-judge)
     → let s = now (start j .args .s) in
     let w = start j .args .places in
-    let vs = slotsIn (partAt s (w .params)) (values j) in
-    Judged (rowsFor (profileOf editionTwo (id j)) (version j) vs (values j .strange) (slotIn s (w .salt)) (slotIn s (w .output))) (profileOf editionTwo (id j)) vs (j .judge .result)
+    let vs = spanTexts (partAt s (w .params)) (values j) in
+    Judged (rowsFor (profileOf editionTwo (id j)) (version j) vs (values j .unmatched) (spanText s (w .salt)) (spanText s (w .output))) (profileOf editionTwo (id j)) vs (j .judge .result)
 said j =
     let s = now (start j .args .s) in
     let w = start j .args .places in
     let v = values j in
     subst
-    (λ (r : Profile). Judged (rowsFor r (version j) (slotsIn (partAt s (w .params)) v) (v .strange) (slotIn s (w .salt)) (slotIn s (w .output))) r (slotsIn (partAt s (w .params)) v) (j .judge .result))
+    (λ (r : Profile). Judged (rowsFor r (version j) (spanTexts (partAt s (w .params)) v) (v .unmatched) (spanText s (w .salt)) (spanText s (w .output))) r (spanTexts (partAt s (w .params)) v) (j .judge .result))
     (j .before .column-of .ensures .0)
     (subst
-    (λ (t : List ℕ). Judged (rowsFor (profileIn (j .before .column-of .result)) (version j) (slotsIn t v) (v .strange) (slotIn s (w .salt)) (slotIn s (w .output))) (profileIn (j .before .column-of .result)) (slotsIn t v) (j .judge .result))
+    (λ (t : List ℕ). Judged (rowsFor (profileIn (j .before .column-of .result)) (version j) (spanTexts t v) (v .unmatched) (spanText s (w .salt)) (spanText s (w .output))) (profileIn (j .before .column-of .result)) (spanTexts t v) (j .judge .result))
     (at-values j .before .before .part2 .ensures) (j .judge .ensures))
 
 values-at-requires : tie.Need-values-at-requires
@@ -75,7 +75,7 @@ returns c =
     let a = start j in
     let n = c .before .if1 .taken in
     let q = judged-number (now (a .args .s)) (a .pre .0) (a .args .places) (values j) (id j) (version j) (seen j) (j .judge .result) (said j) in
-    whole-refused (now (a .args .s)) _
+    parsed-refused (now (a .args .s)) _
     (c .refused .ensures ∙ reading-refused editionTwo (now (a .args .s)) (j .judge .result .number) q n)
     (λ z. n (sym (ap (λ (x : Reading). x .number) (c .refused .ensures)) ∙ z))
 

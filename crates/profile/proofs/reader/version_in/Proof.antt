@@ -8,20 +8,20 @@ use Rattle.decimal.specs.declared.reader.Limited.{Limited}
 use Rattle.grammar.proofs.RuleLaws.{version-most}
 use Rattle.table.specs.declared.version.Version.the-variants.{Number}
 use Rattle.profile.specs.Fields.{readVersion}
-use Rattle.profile.specs.ReaderSteps.{slotIn}
-use Rattle.profile.proofs.SlotLaws.{slot-none, slot-some}
+use Rattle.profile.specs.ReaderSteps.{spanText}
+use Rattle.profile.proofs.OptionalTextLaws.{optional-none, optional-some}
 use Rattle.profile.proofs.reader.version_in.Statement.{statement}
 use Rattle.profile.proofs.reader.version_in.Tie as tie
 
 returns : tie.Need-returns
-returns c = let a = c .before .before .before .args in rw (slot-none (now (a .s)) (a .span) (c .if1 .taken))
+returns c = let a = c .before .before .before .args in rw (optional-none (now (a .s)) (a .span) (c .if1 .taken))
 
 -- the version by what was read, where there is a part
-said : (k : tie.After-version-number) → let a = k .before .before .before .before .before .args in readVersion (slotIn (now (a .s)) (a .span)) ≡ Number (limitedValue (k .version-number .result))
+said : (k : tie.After-version-number) → let a = k .before .before .before .before .before .args in readVersion (spanText (now (a .s)) (a .span)) ≡ Number (limitedValue (k .version-number .result))
 said k =
     let p = k .before in
     let a = p .before .before .before .before .args in
-    rw (slot-some (now (a .s)) (a .span) (p .before .if1 .left), ← p .part .ensures, k .version-number .ensures)
+    rw (optional-some (now (a .s)) (a .span) (p .before .if1 .left), ← p .part .ensures, k .version-number .ensures)
 
 enum-told : tie.Need-enum-told
 enum-told c = search needs

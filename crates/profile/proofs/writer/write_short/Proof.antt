@@ -15,8 +15,8 @@ returns c =
     let w = c .before .before in
     let u = w .before .before .before .before in
     let a = u .before .before .before .before .args in
-    _∙_ {b = writing editionTwo (fieldSet (u .usual-fields .result) [] [] (now (a .salt)) (now (a .output))) (now (a .buf)) (a .at)}
-    (w .write .ensures) (short-by (a .id) (now (a .salt)) (now (a .output)) (now (a .buf)) (a .at) (u .usual-fields .result) (u .usual-fields .ensures))
+    _∙_ {b = writing editionTwo (fieldSet (u .short-fields .result) [] [] (now (a .salt)) (now (a .output))) (now (a .buf)) (a .at)}
+    (w .write .ensures) (short-by (a .id) (now (a .salt)) (now (a .output)) (now (a .buf)) (a .at) (u .short-fields .result) (u .short-fields .ensures))
 
 pub write-short-spec : {M : Type 1} → statement M
 write-short-spec =

@@ -14,7 +14,7 @@ use Rattle.profile.proofs.writer_rows.bad_byte_strings.Tie as tie
 
 -- the rows that are left past so many
 abbrev past : ℕ → tie.Start → ℕ
-past k s = firstOf (drop k (bytesRows (profileIn (s .args .column)) (now (s .args .keyid)) (now (s .args .ad)) (now (s .args .salt)) (now (s .args .output))))
+past k s = firstOf (drop k (bytesRows (profileIn (s .args .column)) (now (s .args .keyid)) (now (s .args .«data»)) (now (s .args .salt)) (now (s .args .output))))
 
 -- where the function began, from a place past each test
 abbrev at-1 : tie.Else1 → tie.Start

@@ -15,7 +15,7 @@ use Rattle.profile.proofs.writer_rows.refusal_of.Statement.{statement}
 use Rattle.profile.proofs.writer_rows.refusal_of.Tie as tie
 
 abbrev fields : tie.Start → FieldSet
-fields s = fieldSet (s .args .n) (now (s .args .keyid)) (now (s .args .ad)) (now (s .args .salt)) (now (s .args .output))
+fields s = fieldSet (s .args .n) (now (s .args .keyid)) (now (s .args .«data»)) (now (s .args .salt)) (now (s .args .output))
 
 abbrev entry : tie.Start → Profile
 entry s = profileIn (s .args .column)
@@ -24,7 +24,7 @@ abbrev numbers : tie.Start → List Row
 numbers s = rangeRows (entry s) (s .args .n)
 
 abbrev strings : tie.Start → List Row
-strings s = bytesRows (entry s) (now (s .args .keyid)) (now (s .args .ad)) (now (s .args .salt)) (now (s .args .output))
+strings s = bytesRows (entry s) (now (s .args .keyid)) (now (s .args .«data»)) (now (s .args .salt)) (now (s .args .output))
 
 -- the rows that are left past so many
 abbrev past : ℕ → tie.Start → ℕ

@@ -15,7 +15,7 @@ use Rattle.profile.proofs.writer_text.put_head.Tie as tie
 fits : (s : tie.Start)
     → let n = s .args .n in
     AllFit (now (s .args .out)) (36 ∷ nameAt (s .args .column .name))
-    (tagged (text "$") (writeVersion (n .version)) ∷ dollared (itemsText (profileIn (s .args .column)) n (now (s .args .keyid)) (now (s .args .ad))) ∷ [])
+    (tagged (text "$") (writeVersion (n .version)) ∷ dollared (itemsText (profileIn (s .args .column)) n (now (s .args .keyid)) (now (s .args .«data»))) ∷ [])
 fits s = record { room = s .pre; small = omega arith }
 
 -- what is put after each call

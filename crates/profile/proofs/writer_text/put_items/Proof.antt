@@ -14,7 +14,7 @@ use Rattle.profile.proofs.writer_text.put_items.Tie as tie
 -- the texts fit
 fits : (s : tie.Start)
     → AllFit (now (s .args .out)) (costsText (profileIn (s .args .column)) (s .args .n))
-    (tagged (text ",keyid=") (writeBytes (now (s .args .keyid))) ∷ tagged (text ",data=") (writeBytes (now (s .args .ad))) ∷ [])
+    (tagged (text ",keyid=") (writeBytes (now (s .args .keyid))) ∷ tagged (text ",data=") (writeBytes (now (s .args .«data»))) ∷ [])
 fits s = record { room = s .pre; small = omega arith }
 
 -- what is put after each call

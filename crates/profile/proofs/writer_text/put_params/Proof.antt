@@ -14,7 +14,7 @@ use Rattle.profile.proofs.writer_text.put_params.Statement.{statement}
 use Rattle.profile.proofs.writer_text.put_params.Tie as tie
 
 abbrev items : tie.Start → List ℕ
-items s = itemsText (profileIn (s .args .column)) (s .args .n) (now (s .args .keyid)) (now (s .args .ad))
+items s = itemsText (profileIn (s .args .column)) (s .args .n) (now (s .args .keyid)) (now (s .args .«data»))
 
 abbrev start : tie.After-put-items → tie.Start
 start c = c .before .before .before .before .before

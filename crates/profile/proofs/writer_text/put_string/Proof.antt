@@ -14,7 +14,7 @@ use Rattle.profile.proofs.writer_text.put_string.Tie as tie
 -- the texts fit
 fits : (s : tie.Start)
     → let n = s .args .n in
-    AllFit (now (s .args .out)) (headText (profileIn (s .args .column)) n (now (s .args .keyid)) (now (s .args .ad)))
+    AllFit (now (s .args .out)) (headText (profileIn (s .args .column)) n (now (s .args .keyid)) (now (s .args .«data»)))
     (tagged (text "$") (writeBytes (now (s .args .salt))) ∷ tagged (text "$") (writeBytes (now (s .args .output))) ∷ [])
 fits s = record { room = s .pre; small = omega arith }
 

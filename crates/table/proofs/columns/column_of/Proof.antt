@@ -2,7 +2,7 @@
 use Prim.Native.Nat.{ℕ}
 use mathlib.Core.Path.{_∙_, ap}
 use borrow.Author.Needs.{needs}
-use Rattle.table.specs.Limits.{nobody, argon2, pbkdf2}
+use Rattle.table.specs.Limits.{noProfile, argon2, pbkdf2}
 use Rattle.table.specs.Columns.{nameAt}
 use Rattle.table.proofs.ColumnLaws.{index-by, entry-none, entry-argon2, entry-pbkdf2, entry-other}
 use Rattle.table.proofs.columns.column_of.Statement.{statement}
@@ -12,7 +12,7 @@ returns : tie.Need-returns
 returns c =
     let id = c .before .before .args .id in
     let e = entry-none id (c .before .if1 .taken) in
-    (c .nobody .ensures .0 ∙ e, c .nobody .ensures .1 ∙ index-by id nobody e)
+    (c .no-profile .ensures .0 ∙ e, c .no-profile .ensures .1 ∙ index-by id noProfile e)
 
 returns-2 : tie.Need-returns-2
 returns-2 c =
@@ -32,7 +32,7 @@ returns-4 : tie.Need-returns-4
 returns-4 c =
     let id = c .before .before .before .before .args .id in
     let e = entry-other id (c .before .if3 .left) in
-    (c .nobody2 .ensures .0 ∙ e, c .nobody2 .ensures .1 ∙ index-by id nobody e)
+    (c .no-profile2 .ensures .0 ∙ e, c .no-profile2 .ensures .1 ∙ index-by id noProfile e)
 
 pub column-of-spec : {M : Type 1} → statement M
 column-of-spec =

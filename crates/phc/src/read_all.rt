@@ -1,6 +1,6 @@
 // All that a string carries, in one call: the record with the counts after it, and the four byte strings.
 use crate::record::WHOLE_LEN;
-use crate::record::put_whole;
+use crate::record::put_record_all;
 use fast_path::reader::read;
 use fast_path::reader::read_all;
 use text::numbers::NO_ROOM;
@@ -9,7 +9,7 @@ ghost use mathlib.Core.Bool.{cond};
 ghost use lib.Dec.{eqb};
 ghost use Rattle.table.specs.Limits.{editionTwo};
 ghost use Rattle.profile.specs.Entries.{reading};
-ghost use Rattle.phc.specs.Records.{whole, recordedWhole};
+ghost use Rattle.phc.specs.Records.{allOutcome, recordedAll};
 
 // The reader's number; 17 where it accepts.
 fn number_or_full(s: &[u8]) -> u64
@@ -27,7 +27,7 @@ fn number_or_full(s: &[u8]) -> u64
 // the reader's number, then 17.
 #[no_mangle]
 pub extern "C" fn phc_read_all(s: &[u8], record: &mut [u8], buf: &mut [u8]) -> u64
-    ensures { λ r. ⌜ whole r (now («record» .exit)) (now (buf .exit)) ≡ recordedWhole (now (s .entry)) (now («record» .entry)) (now (buf .entry)) ⌝ }
+    ensures { λ r. ⌜ allOutcome r (now («record» .exit)) (now (buf .exit)) ≡ recordedAll (now (s .entry)) (now («record» .entry)) (now (buf .entry)) ⌝ }
 {
     if record.len() < WHOLE_LEN {
         return number_or_full(s);
@@ -38,6 +38,6 @@ pub extern "C" fn phc_read_all(s: &[u8], record: &mut [u8], buf: &mut [u8]) -> u
     if number != 0 {
         return number as u64;
     }
-    put_whole(c, record);
+    put_record_all(c, record);
     0
 }

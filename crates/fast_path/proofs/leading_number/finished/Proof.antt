@@ -1,8 +1,8 @@
--- `fast_path::numeral::finished` meets its contract. Assumes nothing.
+-- `fast_path::leading_number::finished` meets its contract. Assumes nothing.
 use borrow.Author.Needs.{needs}
-use Rattle.fast_path.proofs.Numerals.{numeral-none, numeral-zeros, numeral-zero, numeral-large, numeral-is}
-use Rattle.fast_path.proofs.numeral.finished.Statement.{statement}
-use Rattle.fast_path.proofs.numeral.finished.Tie as tie
+use Rattle.fast_path.proofs.LeadingNumbers.{numeral-none, numeral-zeros, numeral-zero, numeral-large, numeral-is}
+use Rattle.fast_path.proofs.leading_number.finished.Statement.{statement}
+use Rattle.fast_path.proofs.leading_number.finished.Tie as tie
 
 returns : tie.Need-returns
 returns c = numeral-none (c .before .args .s .now) (c .before .args .at) _ _ (c .before .pre .0) (c .before .pre .1) (c .if1 .taken)

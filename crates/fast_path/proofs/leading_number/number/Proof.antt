@@ -1,11 +1,11 @@
--- `fast_path::numeral::number` meets its contract. Assumes nothing.
+-- `fast_path::leading_number::number` meets its contract. Assumes nothing.
 use Prim.Native.Nat.{_-_, _≤_}
 use native.Mathlib.Omega.{arith}
 use lib.ListN.{length}
 use borrow.Author.Needs.{needs}
-use Rattle.fast_path.proofs.Numerals.{below-digits, above-digits, Counting, counting-start, counting-digit, counting-stop, counting-end, counting-large, numeral-past}
-use Rattle.fast_path.proofs.numeral.number.Statement.{statement}
-use Rattle.fast_path.proofs.numeral.number.Tie as tie
+use Rattle.fast_path.proofs.LeadingNumbers.{below-digits, above-digits, Counting, counting-start, counting-digit, counting-stop, counting-end, counting-large, numeral-past}
+use Rattle.fast_path.proofs.leading_number.number.Statement.{statement}
+use Rattle.fast_path.proofs.leading_number.number.Tie as tie
 
 abbrev Inv-loop : tie.InvT-loop
 Inv-loop s at n₀ i₀ n i = (n ≤ 4294967299) × Counting s at n i

@@ -1,8 +1,8 @@
 -- `phc::whole::number_or_full` meets its contract. Assumes nothing.
 use borrow.Author.Tests.{ne-eqb}
 use borrow.Author.Needs.{needs}
-use Rattle.phc.proofs.whole.number_or_full.Statement.{statement}
-use Rattle.phc.proofs.whole.number_or_full.Tie as tie
+use Rattle.phc.proofs.read_all.number_or_full.Statement.{statement}
+use Rattle.phc.proofs.read_all.number_or_full.Tie as tie
 
 returns : tie.Need-returns
 returns c = rw (← c .before .read .ensures, c .if1 .taken)

@@ -16,7 +16,7 @@ use Rattle.text.proofs.Runs.{run-go, run-stop, run-past, run-all, run-length, r
 use Rattle.decimal.specs.Decimal.{isDigit, isUnsigned, valueFrom, value}
 use Rattle.decimal.proofs.DigitSteps.{unsigned-none, unsigned-zero, unsigned-other, value-grows}
 use Rattle.table.specs.Limits.{largest32}
-use Rattle.fast_path.specs.Walk.{numeralIn}
+use Rattle.fast_path.specs.Walk.{leadingNumber}
 use Rattle.fast_path.specs.WalkSteps.{digitsAt, Counted}
 
 no-digit : isDigit 0 ≡ false
@@ -70,8 +70,8 @@ module _ (s : List ℕ) (at n i : ℕ) (k : Counting s at n i) where
   counting-end h = counting-done (run-past isDigit s i h)
 
   -- one digit more makes it too large
-  pub counting-large : i < length s → 48 ≤ getD s i 0 → getD s i 0 ≤ 57 → 429496729 < n → numeralIn (drop at s) ≡ none
-  unfolding numeralIn
+  pub counting-large : i < length s → 48 ≤ getD s i 0 → getD s i 0 ≤ 57 → 429496729 < n → leadingNumber (drop at s) ≡ none
+  unfolding leadingNumber
   counting-large h p q l =
       let c = counting-digit h p q in
       let v = value-grows (digitsAt s (i + 1)) (n * 10 + (getD s i 0 - 48)) in
@@ -79,8 +79,8 @@ module _ (s : List ℕ) (at n i : ℕ) (k : Counting s at n i) where
       let b : largest32 < value (digitsAt s at) = omega arith in
       rw (lt-leb (value (digitsAt s at)) largest32 b, and-false)
 
-pub numeral-past : (s : List ℕ) (at : ℕ) → length s ≤ at → numeralIn (drop at s) ≡ none
-unfolding numeralIn isUnsigned
+pub numeral-past : (s : List ℕ) (at : ℕ) → length s ≤ at → leadingNumber (drop at s) ≡ none
+unfolding leadingNumber isUnsigned
 numeral-past s at h = rw (run-past isDigit s at h)
 
 -- ---- all digits are counted
@@ -95,37 +95,37 @@ module _ (s : List ℕ) (at n next : ℕ) (h : at < length s) (k : Counted s at 
   first-at : (length (digitsAt s at) ≡ 0 → ⊥) → getD (digitsAt s at) 0 0 ≡ getD s at 0
   first-at e = run-first isDigit (drop at s) e ∙ rw (getD-drop, add-zero)
 
-  pub numeral-none : next ≡ at → numeralIn (drop at s) ≡ none
-  unfolding numeralIn
+  pub numeral-none : next ≡ at → leadingNumber (drop at s) ≡ none
+  unfolding leadingNumber
   numeral-none e = rw (← unsigned-none (digitsAt s at) (omega (arith, k .next-is)))
 
   -- a leading zero
-  pub numeral-zeros : (next ≡ at → ⊥) → getD s at 0 ≡ 48 → (next ≡ at + 1 → ⊥) → numeralIn (drop at s) ≡ none
-  unfolding numeralIn
+  pub numeral-zeros : (next ≡ at → ⊥) → getD s at 0 ≡ 48 → (next ≡ at + 1 → ⊥) → leadingNumber (drop at s) ≡ none
+  unfolding leadingNumber
   numeral-zeros a e b =
       let x : length (digitsAt s at) ≡ 0 → ⊥ = λ q. a (omega (arith, k .next-is)) in
       rw (← unsigned-zero (digitsAt s at) x (first-at x ∙ e), ne-eqb (length (digitsAt s at)) 1 (λ q. b (omega (arith, k .next-is))))
 
-  pub numeral-large : largest32 < n → numeralIn (drop at s) ≡ none
-  unfolding numeralIn
+  pub numeral-large : largest32 < n → leadingNumber (drop at s) ≡ none
+  unfolding leadingNumber
   numeral-large l = rw (lt-leb (value (digitsAt s at)) largest32 (omega (arith, k .number)), and-false)
 
   inside-next : next ≤ length s
   inside-next = omega (arith, k .next-is, run-length isDigit (drop at s), length-drop at s)
 
-  found-at : isUnsigned (digitsAt s at) ≡ true → n ≤ largest32 → (numeralIn (drop at s) ≡ some (n, drop next s)) × (next ≤ length s)
-  unfolding numeralIn
+  found-at : isUnsigned (digitsAt s at) ≡ true → n ≤ largest32 → (leadingNumber (drop at s) ≡ some (n, drop next s)) × (next ≤ length s)
+  unfolding leadingNumber
   found-at u l =
       (rw (u, le-leb (value (digitsAt s at)) largest32 (omega (arith, k .number)), k .number, k .next-is, drop-drop), inside-next)
 
-  pub numeral-zero : (next ≡ at → ⊥) → getD s at 0 ≡ 48 → next ≡ at + 1 → (numeralIn (drop at s) ≡ some (0, drop next s)) × (next ≤ length s)
+  pub numeral-zero : (next ≡ at → ⊥) → getD s at 0 ≡ 48 → next ≡ at + 1 → (leadingNumber (drop at s) ≡ some (0, drop next s)) × (next ≤ length s)
   numeral-zero a e b =
       let x : length (digitsAt s at) ≡ 0 → ⊥ = λ q. a (omega (arith, k .next-is)) in
       let l : length (digitsAt s at) ≡ 1 = omega (arith, k .next-is) in
       let v : n ≡ 0 = k .number ∙ value-one (digitsAt s at) l (first-at x ∙ e) in
       rw v at (found-at (sym (unsigned-zero (digitsAt s at) x (first-at x ∙ e)) ∙ eq-eqb (length (digitsAt s at)) 1 l) (omega arith))
 
-  pub numeral-is : (next ≡ at → ⊥) → (getD s at 0 ≡ 48 → ⊥) → n ≤ largest32 → (numeralIn (drop at s) ≡ some (n, drop next s)) × (next ≤ length s)
+  pub numeral-is : (next ≡ at → ⊥) → (getD s at 0 ≡ 48 → ⊥) → n ≤ largest32 → (leadingNumber (drop at s) ≡ some (n, drop next s)) × (next ≤ length s)
   numeral-is a e l =
       let x : length (digitsAt s at) ≡ 0 → ⊥ = λ q. a (omega (arith, k .next-is)) in
       found-at (sym (unsigned-other (digitsAt s at) x (λ q. e (sym (first-at x) ∙ q))) ∙ run-all isDigit (drop at s)) l

@@ -16,7 +16,7 @@ use Rattle.profile.specs.Entries.{reading}
 use Rattle.profile.proofs.ReadLaws.{reading-number}
 use Rattle.fast_path.specs.Contents.{joinedBytes, counted, refusedContents, allDecoded, contents}
 use Rattle.fast_path.specs.declared.contents.Contents.{Contents}
-use Rattle.phc.specs.Records.{recordBytes, countBytes, wholeLength, whole, recordedWhole}
+use Rattle.phc.specs.Records.{recordBytes, countBytes, recordAllLength, allOutcome, recordedAll}
 
 -- the number of the contents is that of the bytes
 contents-number : (s buffer : List ℕ) → contents editionTwo s buffer 0 .reading .number ≡ allDecoded editionTwo s buffer 0 .number
@@ -42,19 +42,19 @@ module _ (s «record» buffer : List ℕ) where
   fits = putAfter (reading editionTwo s .number) «record» 0 told
 
   -- refused before the bytes are looked at
-  stopped : (k : ℕ) → 0 < k → fits .number ≡ k → whole k «record» buffer ≡ recordedWhole s «record» buffer
-  unfolding recordedWhole
+  stopped : (k : ℕ) → 0 < k → fits .number ≡ k → allOutcome k «record» buffer ≡ recordedAll s «record» buffer
+  unfolding recordedAll
   stopped k h e =
       let b = put-refused buffer 0 (joinedBytes (fieldsOf editionTwo s)) (fits .number) k e h in
       let r = put-refused «record» 0 told k k refl h in
       rw (← b, ← r)
 
-  pub whole-short : length «record» < wholeLength → (n : ℕ) → n ≡ cond (eqb (reading editionTwo s .number) 0) 17 (reading editionTwo s .number)
-      → whole n «record» buffer ≡ recordedWhole s «record» buffer
-  whole-short h n e = go (eqb (reading editionTwo s .number) 0) refl e
+  pub record-all-short : length «record» < recordAllLength → (n : ℕ) → n ≡ cond (eqb (reading editionTwo s .number) 0) 17 (reading editionTwo s .number)
+      → allOutcome n «record» buffer ≡ recordedAll s «record» buffer
+  record-all-short h n e = go (eqb (reading editionTwo s .number) 0) refl e
     where
       go : (b : Bool) → eqb (reading editionTwo s .number) 0 ≡ b → n ≡ cond b 17 (reading editionTwo s .number)
-          → whole n «record» buffer ≡ recordedWhole s «record» buffer
+          → allOutcome n «record» buffer ≡ recordedAll s «record» buffer
       go true t e =
           let z = eqb-true (reading editionTwo s .number) 0 t in
           let q = put-full «record» 0 told (omega arith) ∙ sym (put-clear «record» 0 told (reading editionTwo s .number) z) in
@@ -65,10 +65,10 @@ module _ (s «record» buffer : List ℕ) where
           rw e (stopped (reading editionTwo s .number) (omega (arith, z)) (sym (ap (λ (o : Outcome). o .number) q)))
 
   -- the record fits: the number is the reader's
-  pub fits-number : wholeLength ≤ length «record» → fits .number ≡ answer editionTwo s
+  pub fits-number : recordAllLength ≤ length «record» → fits .number ≡ answer editionTwo s
   fits-number h = after-number (reading editionTwo s .number) «record» told (λ z. omega arith) ∙ reading-number editionTwo s
 
-  module _ (h : wholeLength ≤ length «record») (c : Contents) (e : c ≡ contents editionTwo s buffer 0) (left : List ℕ) (w : left ≡ allDecoded editionTwo s buffer 0 .buffer) where
+  module _ (h : recordAllLength ≤ length «record») (c : Contents) (e : c ≡ contents editionTwo s buffer 0) (left : List ℕ) (w : left ≡ allDecoded editionTwo s buffer 0 .buffer) where
     bytes-are : putAfter (fits .number) buffer 0 (joinedBytes (fieldsOf editionTwo s)) ≡ allDecoded editionTwo s buffer 0
     unfolding allDecoded
     bytes-are = ap (λ (n : ℕ). putAfter n buffer 0 (joinedBytes (fieldsOf editionTwo s))) (fits-number h)
@@ -76,9 +76,9 @@ module _ (s «record» buffer : List ℕ) where
     number-is : c .reading .number ≡ allDecoded editionTwo s buffer 0 .number
     number-is = ap (λ (x : Contents). x .reading .number) e ∙ contents-number s buffer
 
-    pub whole-refused : (c .reading .number ≡ 0 → ⊥) → whole (c .reading .number) «record» left ≡ recordedWhole s «record» buffer
-    unfolding recordedWhole
-    whole-refused z =
+    pub record-all-refused : (c .reading .number ≡ 0 → ⊥) → allOutcome (c .reading .number) «record» left ≡ recordedAll s «record» buffer
+    unfolding recordedAll
+    record-all-refused z =
         let r = put-refused «record» 0 told (allDecoded editionTwo s buffer 0 .number) (c .reading .number) (sym number-is) (omega (arith, z)) in
         rw (bytes-are, ← r, number-is, w)
 
@@ -86,10 +86,10 @@ module _ (s «record» buffer : List ℕ) where
     unfolding contents
     all-is z = e ∙ rw (eq-eqb (allDecoded editionTwo s buffer 0 .number) 0 (sym number-is ∙ z))
 
-    pub whole-done : c .reading .number ≡ 0 → (wrote : List ℕ) → wrote ≡ over «record» 0 (recordBytes (c .reading) ++ countBytes c)
-        → whole 0 wrote left ≡ recordedWhole s «record» buffer
-    unfolding recordedWhole
-    whole-done z wrote q =
+    pub record-all-done : c .reading .number ≡ 0 → (wrote : List ℕ) → wrote ≡ over «record» 0 (recordBytes (c .reading) ++ countBytes c)
+        → allOutcome 0 wrote left ≡ recordedAll s «record» buffer
+    unfolding recordedAll
+    record-all-done z wrote q =
         let n : allDecoded editionTwo s buffer 0 .number ≡ 0 = sym number-is ∙ z in
-        let r = put-done «record» 0 told (omega arith) wholeLength refl wrote (q ∙ ap (λ (x : Contents). over «record» 0 (recordBytes (x .reading) ++ countBytes x)) (all-is z)) in
+        let r = put-done «record» 0 told (omega arith) recordAllLength refl wrote (q ∙ ap (λ (x : Contents). over «record» 0 (recordBytes (x .reading) ++ countBytes x)) (all-is z)) in
         rw (bytes-are, put-clear «record» 0 told (allDecoded editionTwo s buffer 0 .number) n, ← r, n, w)

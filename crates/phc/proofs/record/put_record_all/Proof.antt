@@ -1,11 +1,11 @@
--- `phc::record::put_whole` meets its contract. Assumes nothing.
+-- `phc::record::put_record_all` meets its contract. Assumes nothing.
 use mathlib.Core.Path.{refl}
 use native.Mathlib.Omega.{arith}
 use borrow.Author.Needs.{needs}
 use Rattle.text.proofs.Over.{put-after}
 use Rattle.phc.specs.Records.{recordBytes}
-use Rattle.phc.proofs.record.put_whole.Statement.{statement}
-use Rattle.phc.proofs.record.put_whole.Tie as tie
+use Rattle.phc.proofs.record.put_record_all.Statement.{statement}
+use Rattle.phc.proofs.record.put_record_all.Tie as tie
 
 returns : tie.Need-returns
 returns c =
@@ -16,8 +16,8 @@ returns c =
     put-after (st .args .out .now) _ _ (recordBytes (st .args .c .reading)) _ _ _ _ _ (p .put-record .ensures) refl (n .four-words .ensures)
     (omega (arith, st .pre)) (w .write-text .ensures)
 
-pub put-whole-spec : {M : Type 1} → statement M
-put-whole-spec =
+pub put-record-all-spec : {M : Type 1} → statement M
+put-record-all-spec =
     tie.close
     (tie.spec
     (λ c κs. search needs)

@@ -1,22 +1,22 @@
 -- `phc::whole::phc_read_all` meets its contract. Assumes nothing.
 use denote.Ref.{now}
 use borrow.Author.Needs.{needs}
-use Rattle.phc.proofs.WholeLaws.{whole-short, whole-refused, whole-done}
-use Rattle.phc.proofs.whole.phc_read_all.Statement.{statement}
-use Rattle.phc.proofs.whole.phc_read_all.Tie as tie
+use Rattle.phc.proofs.RecordAllLaws.{record-all-short, record-all-refused, record-all-done}
+use Rattle.phc.proofs.read_all.phc_read_all.Statement.{statement}
+use Rattle.phc.proofs.read_all.phc_read_all.Tie as tie
 
 returns : tie.Need-returns
 returns c =
     let t = c .before in
     let a = t .before .before .before .before .args in
-    whole-short (now (a .s)) (now (a .«record»)) (now (a .buf)) (t .if1 .taken) _ (c .number-or-full .ensures)
+    record-all-short (now (a .s)) (now (a .«record»)) (now (a .buf)) (t .if1 .taken) _ (c .number-or-full .ensures)
 
 returns-2 : tie.Need-returns-2
 returns-2 c =
     let r = c .before .before .before .before in
     let e = r .before .before in
     let a = e .before .before .before .before .args in
-    whole-refused (now (a .s)) (now (a .«record»)) (now (a .buf)) (e .if1 .left) (r .read-all .result) (r .read-all .ensures .0) _ (r .read-all .ensures .1) (c .if2 .taken)
+    record-all-refused (now (a .s)) (now (a .«record»)) (now (a .buf)) (e .if1 .left) (r .read-all .result) (r .read-all .ensures .0) _ (r .read-all .ensures .1) (c .if2 .taken)
 
 returns-3 : tie.Need-returns-3
 returns-3 c =
@@ -25,7 +25,7 @@ returns-3 c =
     let r = f .before .before .before .before in
     let e = r .before .before in
     let a = e .before .before .before .before .args in
-    whole-done (now (a .s)) (now (a .«record»)) (now (a .buf)) (e .if1 .left) (r .read-all .result) (r .read-all .ensures .0) _ (r .read-all .ensures .1) (f .if2 .left) _ (p .put-whole .ensures)
+    record-all-done (now (a .s)) (now (a .«record»)) (now (a .buf)) (e .if1 .left) (r .read-all .result) (r .read-all .ensures .0) _ (r .read-all .ensures .1) (f .if2 .left) _ (p .put-record-all .ensures)
 
 pub phc-read-all-spec : {M : Type 1} → statement M
 phc-read-all-spec =

@@ -7,11 +7,11 @@ use mathlib.Core.Option.{none, some}
 use borrow.Author.Tests.{eq-eqb, ne-eqb}
 use Rattle.grammar.specs.Parts.{partAt}
 use Rattle.grammar.specs.declared.places.Span.{Span}
-use Rattle.profile.specs.ReaderSteps.{slotIn}
+use Rattle.profile.specs.ReaderSteps.{spanText}
 
 module _ (s : List ℕ) (w : Span) where
-  pub slot-none : w .at ≡ 0 → slotIn s w ≡ none
-  slot-none z = rw (eq-eqb (w .at) 0 z)
+  pub optional-none : w .at ≡ 0 → spanText s w ≡ none
+  optional-none z = rw (eq-eqb (w .at) 0 z)
 
-  pub slot-some : (w .at ≡ 0 → ⊥) → slotIn s w ≡ some (partAt s w)
-  slot-some n = rw (ne-eqb (w .at) 0 n)
+  pub optional-some : (w .at ≡ 0 → ⊥) → spanText s w ≡ some (partAt s w)
+  optional-some n = rw (ne-eqb (w .at) 0 n)
