@@ -128,6 +128,25 @@ static uint64_t write_fields(const struct fields *f, const struct lent *buf) {
     return answer;
 }
 
+/* The short writer writes what the writer does for its defaults. */
+static void check_write_short(const struct fields *f, size_t room) {
+    struct fields g = *f;
+    int argon2 = 1 <= f->id && f->id <= 3;
+    g.has_version = argon2 ? 1 : 0, g.version = 19;
+    g.m = argon2 ? 65536 : 0, g.t = argon2 ? 2 : 20000, g.p = argon2 ? 1 : 0;
+    g.count[0] = g.count[1] = 0;
+    struct lent buf = lend(BUFFER, room), salt = lend_bytes(SALT, f->bytes[2], f->count[2]), output = lend_bytes(OUTPUT, f->bytes[3], f->count[3]);
+    uint64_t answer = phc_write_short(f->id, salt.ptr, salt.len, output.ptr, output.len, buf.ptr, buf.len);
+    check_holds(&salt, f->bytes[2], f->count[2]);
+    check_holds(&output, f->bytes[3], f->count[3]);
+    uint8_t written[PHC_ROOM + 64];
+    memcpy(written, buf.slice, room);
+    check_holds(&buf, written, answer < 100 ? 0 : answer / 100);
+    struct lent full = lend(WRITTEN, room);
+    CHECK(write_fields(&g, &full) == answer);
+    check_holds(&full, written, answer < 100 ? 0 : answer / 100);
+}
+
 /* Reading. */
 
 typedef uint64_t (*byte_string)(const uint8_t *, size_t, uint8_t *, size_t);
@@ -202,6 +221,9 @@ static uint64_t read_string(const uint8_t *bytes, size_t len, struct fields *f) 
         check_answer(&buf, answer, number, f->bytes[i], f->count[i], 100 * f->count[i]);
     }
 
+    uint64_t version = f->id > 3 ? 0 : f->has_version ? f->version : 19;
+    CHECK(phc_algorithm_version(s.ptr, s.len) == (number != 0 ? number : 100 * version));
+
     check_read_all(&s, PHC_RECORD_ALL, PHC_BYTES, number, f);
     check_read_all(&s, tail.record, tail.buffer, number, f);
 
@@ -251,6 +273,8 @@ static void write_input(const uint8_t *data, size_t size) {
     check_holds(&buf, string, len);
     buf = lend(WRITTEN, tail.written);
     check_answer(&buf, write_fields(&f, &buf), number, string, len, 100 * len);
+    check_write_short(&f, PHC_ROOM);
+    check_write_short(&f, tail.written);
 
     if (number == 0) {
         struct fields back;

@@ -2,7 +2,9 @@
  *
  * Any bytes may be handed over. Each pointer is valid for its length; NULL with the length 0 is an empty slice. A buffer that is written
  * must not overlap any other argument.
- * A refusal changes no byte. Numbers are those of README.md, 'The numbers'.
+ * Strings are bytes with a length and no end mark: a length counts no NUL and no line feed (either would be part of the string, which is
+ * then refused), and no NUL is written after what a function writes.
+ * A refusal is a number from 1 to 99, one of README.md, 'The numbers', and changes no byte; no other answer lies in that range.
  */
 #ifndef PHC_H
 #define PHC_H
@@ -30,8 +32,12 @@ extern "C" {
  * Else 1 to 15, then 17 where the record has fewer than 20 bytes. The record means nothing unless 0 came back. */
 uint64_t phc_read(const uint8_t *s, size_t s_len, uint8_t *record, size_t record_len);
 
+/* The algorithm version that a string means, for the hasher: a hundred times the version that is written or, for Argon2 where none is
+ * written, of 19; 0 for pbkdf2, which has none. Or 1 to 15. */
+uint64_t phc_algorithm_version(const uint8_t *s, size_t s_len);
+
 /* Each decodes one byte string of a string into the buffer from its start: a hundred times the count (0 where it is absent), or 1 to 15,
- * then 17. A refusal's number is below 100 and not 0. */
+ * then 17. */
 uint64_t phc_keyid(const uint8_t *s, size_t s_len, uint8_t *buf, size_t buf_len);
 uint64_t phc_data(const uint8_t *s, size_t s_len, uint8_t *buf, size_t buf_len);
 uint64_t phc_salt(const uint8_t *s, size_t s_len, uint8_t *buf, size_t buf_len);
@@ -46,11 +52,17 @@ uint64_t phc_read_all(const uint8_t *s, size_t s_len, uint8_t *record, size_t re
 
 /* Writes the one string of the fields into the buffer from its start: a hundred times the count, or 8, 9, 11, 12, 14, 15, 16, then 17.
  * has_version 0: no version, whatever `version` is; 1: that version; any other is 9. An empty salt or output is one that isn't there.
- * For pbkdf2 m and p are 0 and data is empty. */
+ * For pbkdf2 m and p are 0 and data is empty. 265 bytes are always enough. It never gives 0.
+ * The fields and bytes that phc_read_all gave of a string are written back to exactly that string. */
 uint64_t phc_write(uint8_t id, uint8_t has_version, uint32_t version, uint32_t m, uint32_t t, uint32_t p,
                    const uint8_t *keyid, size_t keyid_len, const uint8_t *data, size_t data_len,
                    const uint8_t *salt, size_t salt_len, const uint8_t *output, size_t output_len,
                    uint8_t *buf, size_t buf_len);
+
+/* The same for an id, a salt and an output alone: version 19, m=65536, t=2, p=1 for Argon2, t=20000 for pbkdf2, no keyid and no data.
+ * 8, 14, 15, 16, then 17. */
+uint64_t phc_write_short(uint8_t id, const uint8_t *salt, size_t salt_len, const uint8_t *output, size_t output_len,
+                         uint8_t *buf, size_t buf_len);
 
 #ifdef __cplusplus
 }

@@ -61,6 +61,9 @@ struct Run {
     past_profiles: [u64; 18],
     read_all_numbers: [u64; 18],
     writer_numbers: [u64; 18],
+    short_numbers: [u64; 18],
+    /// Algorithm versions seen.
+    versions: HashMap<u32, u64>,
 }
 
 impl Run {
@@ -120,12 +123,27 @@ impl Run {
         self.read_all_numbers[usize::from(answer)] += 1;
     }
 
-    /// The reader, the four byte strings and all in one call, with rooms of the caller's choice from what is needed.
+    fn version_entry(&mut self, s: &[u8]) {
+        let mut string = Lent::new(&mut self.rng, s);
+        let string_after = string.memory.clone();
+        let expected = reference::algorithm_version(s);
+        // SAFETY: the slice is whole; NULL goes with the length 0 only.
+        let given = unsafe { phc_algorithm_version(string.ptr(), string.len) };
+        let input = || format!("\"{}\" of {} bytes", s.escape_ascii(), s.len());
+        self.same("phc_algorithm_version", &input, &given, &expected.map_or_else(u64::from, |v| 100 * u64::from(v)));
+        self.same("phc_algorithm_version's string and its guards", &input, &string.memory, &string_after);
+        if let Ok(version) = expected {
+            *self.versions.entry(version).or_default() += 1;
+        }
+    }
+
+    /// The reader, the algorithm version, the four byte strings and all in one call, with rooms of the caller's choice from what is needed.
     fn compare_rooms(&mut self, s: &[u8], choose: &mut dyn FnMut(&mut Rng, usize) -> usize) {
         let expected = reference::read(s);
         let record = expected.as_ref().map(|(kind, f)| record_bytes(*kind, f));
         let room = choose(&mut self.rng, PHC_RECORD);
         self.string_entry("phc_read", phc_read, s, room, record.map_err(|n| *n), 0);
+        self.version_entry(s);
 
         let needed = expected.as_ref().map_or(0, |(_, f)| byte_strings(f).concat().len());
         let (record_room, buffer_room) = (choose(&mut self.rng, PHC_RECORD_ALL), choose(&mut self.rng, needed));
@@ -188,10 +206,36 @@ impl Run {
         expected
     }
 
+    /// Calls the short writer and compares.
+    fn short_entry(&mut self, id: u8, salt: &[u8], output: &[u8], room: usize) {
+        let expected = reference::write_short(id, salt, output).and_then(|bytes| reference::fit(bytes, room));
+        let mut parts = [salt, output].map(|bytes| Lent::new(&mut self.rng, bytes));
+        let parts_after = parts.each_ref().map(|part| part.memory.clone());
+        let mut buffer = Lent::room(&mut self.rng, room);
+        let (answer, buffer_after) = match &expected {
+            Ok(bytes) => (100 * bytes.len() as u64, buffer.with(bytes)),
+            Err(number) => (u64::from(*number), buffer.memory.clone()),
+        };
+        let [salt_lent, output_lent] = &mut parts;
+        // SAFETY: the slices are whole and apart; NULL goes with the length 0 only.
+        let given = unsafe {
+            phc_write_short(id, salt_lent.ptr(), salt_lent.len, output_lent.ptr(), output_lent.len, buffer.ptr(), buffer.len)
+        };
+        let input = || format!("id {id}, salt {salt:?}, output {output:?} with room {room}");
+        self.same("phc_write_short", &input, &given, &answer);
+        self.same("phc_write_short's buffer and its guards", &input, &buffer.memory, &buffer_after);
+        self.same("phc_write_short's byte strings and their guards", &input, &parts.map(|part| part.memory), &parts_after);
+        self.short_numbers[usize::from(expected.err().unwrap_or(0))] += 1;
+    }
+
     fn compare_fields(&mut self, arguments: &Arguments) {
         let needed = reference::write(&arguments.meaning()).map_or(0, |s| s.len());
         let room = if self.rng.once_in(4) { PHC_ROOM } else { some_room(&mut self.rng, needed) };
         let answer = self.write_entry(arguments, room);
+        let f = &arguments.fields;
+        let needed = reference::write_short(f.id, &f.salt, &f.output).map_or(0, |s| s.len());
+        let room = some_room(&mut self.rng, needed);
+        self.short_entry(f.id, &f.salt, &f.output, room);
         self.cases += 1;
         self.writer_numbers[usize::from(*answer.as_ref().err().unwrap_or(&0))] += 1;
         if let Ok(s) = answer {
@@ -512,6 +556,7 @@ fn buffers(run: &mut Run) {
         let s = reference::write(&fields).unwrap();
         for room in 0..s.len() + 20 {
             run.write_entry(&Arguments::of(&fields), room).ok();
+            run.short_entry(fields.id, &fields.salt, &fields.output, room);
             run.cases += 1;
         }
         for room in 0..84 {
@@ -577,6 +622,8 @@ fn main() {
         past_profiles: [0; 18],
         read_all_numbers: [0; 18],
         writer_numbers: [0; 18],
+        short_numbers: [0; 18],
+        versions: HashMap::new(),
     };
 
     known(&mut run);
@@ -611,6 +658,13 @@ fn main() {
     for row in [0, 8, 9, 11, 12, 14, 15, 16, 17] {
         assert!(run.writer_numbers[row] > 100, "the writer's number {row} came up too seldom");
     }
+    for row in [0, 8, 14, 15, 16, 17] {
+        assert!(run.short_numbers[row] > 100, "the short writer's number {row} came up too seldom");
+    }
+    for version in [0, 16, 19] {
+        assert!(run.versions.get(&version).is_some_and(|n| *n > 1_000), "the algorithm version {version} came up too seldom");
+    }
+    assert_eq!(run.versions.len(), 3, "the algorithm versions");
     assert_eq!(run.longest_written, PHC_ROOM, "the longest string");
     assert!(run.past_grammar > 4_000 && run.longest_read == LONGEST, "too few long strings");
 }

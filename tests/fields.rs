@@ -1,7 +1,7 @@
 //! Fields: permitted, at each limit and past it.
 
 use crate::chance::Rng;
-use crate::reference::{self, Fields, IDS};
+use crate::reference::{self, is_argon2, Fields, IDS};
 
 /// The writer's arguments, as the C interface takes them.
 #[derive(Clone, Debug)]
@@ -31,10 +31,6 @@ impl Arguments {
 
 pub const VERSIONS: [u32; 10] = [0, 1, 15, 16, 17, 18, 19, 20, u32::MAX - 1, u32::MAX];
 pub const ID_NUMBERS: [u8; 9] = [0, 1, 2, 3, 4, 5, 6, 7, 255];
-
-fn is_argon2(id: u8) -> bool {
-    (1..=3).contains(&id)
-}
 
 pub fn good_fields(rng: &mut Rng, id: u8) -> Fields {
     let limits = reference::limits(id).unwrap();

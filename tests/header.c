@@ -1,5 +1,10 @@
-/* The header as a C program sees it: it compiles without a warning, declares what the archive exports, and its numbers are right. */
+/* The header as a program sees it, in C or in C++: it compiles without a warning, declares what the archive exports, and its numbers are
+ * right. */
 #include "phc.h"
+
+#ifdef __cplusplus
+#define _Static_assert static_assert
+#endif
 
 _Static_assert(PHC_ROOM == 265, "the longest string");
 _Static_assert(PHC_RECORD == 20, "kind, id, flag, 0 and four numbers");
@@ -8,16 +13,24 @@ _Static_assert(PHC_BYTES == 8 + 32 + 48 + 64, "keyid, data, salt and output");
 
 int main(void) {
     static const uint8_t string[] = "$pbkdf2s2$AAAAAA$AAAAAAAAAAAAAAAA";
+    static const uint8_t absent[] = "$argon2i$m=8,t=1,p=1";
     uint8_t record[PHC_RECORD_ALL], bytes[PHC_BYTES], again[PHC_ROOM];
+    /* A length counts no NUL. */
     const size_t len = sizeof string - 1;
 
     return phc_read(NULL, 0, record, PHC_RECORD) != 1
         || phc_read(string, len, record, PHC_RECORD) != 0
+        || phc_read(string, len + 1, record, PHC_RECORD) != 6
         || phc_read_all(string, len, record, sizeof record, bytes, sizeof bytes) != 0
         || record[0] != 3 || record[1] != 4 || record[28] != 4 || record[32] != 12
+        || phc_algorithm_version(string, len) != 0
+        || phc_algorithm_version(absent, sizeof absent - 1) != 1900
+        || phc_algorithm_version(absent, sizeof absent - 2) != 4
         || phc_keyid(string, len, bytes, sizeof bytes) != 0
         || phc_data(string, len, bytes, sizeof bytes) != 0
         || phc_salt(string, len, bytes, sizeof bytes) != 400
         || phc_output(string, len, bytes + 4, sizeof bytes - 4) != 1200
-        || phc_write(4, 0, 0, 0, 20000, 0, NULL, 0, NULL, 0, bytes, 4, bytes + 4, 12, again, sizeof again) != 100 * len;
+        || phc_write(4, 0, 0, 0, 20000, 0, NULL, 0, NULL, 0, bytes, 4, bytes + 4, 12, again, sizeof again) != 100 * len
+        || phc_write_short(4, bytes, 4, bytes + 4, 12, again, len) != 100 * len
+        || phc_write_short(4, bytes, 4, bytes + 4, 12, again, len - 1) != 17;
 }

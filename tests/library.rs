@@ -10,6 +10,7 @@ pub type StringEntry = unsafe extern "C" fn(*const u8, usize, *mut u8, usize) ->
 
 extern "C" {
     pub fn phc_read(s: *const u8, s_len: usize, record: *mut u8, record_len: usize) -> u64;
+    pub fn phc_algorithm_version(s: *const u8, s_len: usize) -> u64;
     pub fn phc_keyid(s: *const u8, s_len: usize, buf: *mut u8, buf_len: usize) -> u64;
     pub fn phc_data(s: *const u8, s_len: usize, buf: *mut u8, buf_len: usize) -> u64;
     pub fn phc_salt(s: *const u8, s_len: usize, buf: *mut u8, buf_len: usize) -> u64;
@@ -20,5 +21,8 @@ extern "C" {
         keyid: *const u8, keyid_len: usize, data: *const u8, data_len: usize,
         salt: *const u8, salt_len: usize, output: *const u8, output_len: usize,
         buf: *mut u8, buf_len: usize,
+    ) -> u64;
+    pub fn phc_write_short(
+        id: u8, salt: *const u8, salt_len: usize, output: *const u8, output_len: usize, buf: *mut u8, buf_len: usize,
     ) -> u64;
 }

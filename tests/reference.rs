@@ -67,6 +67,10 @@ pub fn limits(id: u8) -> Option<&'static Limits> {
     }
 }
 
+pub fn is_argon2(id: u8) -> bool {
+    (1..=3).contains(&id)
+}
+
 #[derive(Clone, Debug, PartialEq)]
 pub struct Fields {
     pub id: u8,
@@ -255,6 +259,12 @@ pub fn read(s: &[u8]) -> Result<(u8, Fields), u8> {
     Ok((kind, Fields { id, version: pieces.version, m, t, p, keyid, data, salt, output }))
 }
 
+/// The algorithm version that a string means: the written one, or 19 for Argon2 where none is written; 0 for pbkdf2.
+pub fn algorithm_version(s: &[u8]) -> Result<u32, u8> {
+    let (_, fields) = read(s)?;
+    Ok(if is_argon2(fields.id) { fields.version.unwrap_or(19) } else { 0 })
+}
+
 // The writer, rows 8, 9, 11, 12, 14, 15, 16.
 
 /// The one string of the fields, or the number of their fault.
@@ -306,6 +316,12 @@ pub fn write(fields: &Fields) -> Result<Vec<u8>, u8> {
         }
     }
     Ok(s.into_bytes())
+}
+
+/// The string of an id, a salt and an output alone.
+pub fn write_short(id: u8, salt: &[u8], output: &[u8]) -> Result<Vec<u8>, u8> {
+    let (version, m, t, p) = if is_argon2(id) { (Some(19), 65_536, 2, 1) } else { (None, 0, 20_000, 0) };
+    write(&Fields { id, version, m, t, p, keyid: vec![], data: vec![], salt: salt.to_vec(), output: output.to_vec() })
 }
 
 /// Row 17: the bytes, if a buffer of this room takes them.

@@ -21,7 +21,8 @@ static unsigned others(const uint8_t *s, size_t len)
     uint8_t record[PHC_RECORD_ALL], buf[PHC_BYTES];
     return (phc_read(s, len, record, sizeof record) != 1) + (phc_read_all(s, len, record, sizeof record, buf, sizeof buf) != 1)
         + (phc_keyid(s, len, buf, sizeof buf) != 1) + (phc_data(s, len, buf, sizeof buf) != 1)
-        + (phc_salt(s, len, buf, sizeof buf) != 1) + (phc_output(s, len, buf, sizeof buf) != 1);
+        + (phc_salt(s, len, buf, sizeof buf) != 1) + (phc_output(s, len, buf, sizeof buf) != 1)
+        + (phc_algorithm_version(s, len) != 1);
 }
 
 int main(void)
@@ -40,7 +41,7 @@ int main(void)
                 memset(s, fillers[f], LONGEST);
                 memcpy(s, beginnings[b], strlen(beginnings[b]));
                 wrong += others(s, lengths[l]);
-                calls += 6;
+                calls += 7;
             }
     printf("%u calls with strings of more than %d bytes, %u not refused with 1\n", calls, LONGEST, wrong);
     return wrong != 0;

@@ -23,7 +23,7 @@ use Rattle.decimal.specs.Numerals.{Numeral, malformed, outside, number, 
 use Rattle.decimal.specs.DecimalSteps.{upTo, unsignedReading, plain, minus, complementOf}
 use Rattle.decimal.specs.declared.reader.Limited.{Limited}
 use Rattle.decimal.specs.declared.reader.Limited.the-variants.{Malformed, Outside, Value}
-use Rattle.decimal.specs.declared.reader.Signed.the-variants.{Malformed as Signed·Malformed, Number}
+use Rattle.decimal.specs.declared.signs.Signed.the-variants.{Malformed as Signed·Malformed, Number}
 
 -- ---- one operation at a time
 

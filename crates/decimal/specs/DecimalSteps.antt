@@ -8,8 +8,8 @@ use lib.IntN.{ℤ, pos, negsuc, negℤ}
 use Rattle.decimal.specs.Decimal.{isUnsigned, value}
 use Rattle.decimal.specs.declared.reader.Limited.{Limited}
 use Rattle.decimal.specs.declared.reader.Limited.the-variants.{Malformed, Outside, Value}
-use Rattle.decimal.specs.declared.reader.Signed.{Signed}
-use Rattle.decimal.specs.declared.reader.Signed.the-variants.{Malformed as Signed·Malformed, Outside as Signed·Outside, Number}
+use Rattle.decimal.specs.declared.signs.Signed.{Signed}
+use Rattle.decimal.specs.declared.signs.Signed.the-variants.{Malformed as Signed·Malformed, Outside as Signed·Outside, Number}
 
 -- n where it is at most the limit
 unfoldable pub upTo : ℕ → ℕ → Limited

@@ -10,8 +10,8 @@ use Rattle.decimal.specs.Decimal.{isDecimal, decimalValue, decimalText}
 use Rattle.decimal.specs.declared.reader.Decimal.{Decimal}
 use Rattle.decimal.specs.declared.reader.Limited.{Limited}
 use Rattle.decimal.specs.declared.reader.Limited.the-variants.{Malformed as Limited·Malformed, Outside as Limited·Outside, Value}
-use Rattle.decimal.specs.declared.reader.Signed.{Signed}
-use Rattle.decimal.specs.declared.reader.Signed.the-variants.{Malformed as Signed·Malformed, Outside as Signed·Outside, Number}
+use Rattle.decimal.specs.declared.signs.Signed.{Signed}
+use Rattle.decimal.specs.declared.signs.Signed.the-variants.{Malformed as Signed·Malformed, Outside as Signed·Outside, Number}
 
 -- no decimal; a decimal outside the range; or its number
 pub data Numeral : Type 0 where

@@ -1,6 +1,7 @@
 // Texts read as decimals: `0`, or a digit 1 to 9 and any further digits, or a minus sign before such a number other than 0.
 use crate::digits::all_digits;
 use crate::numbers::NOT_DECIMAL;
+use crate::signs::Signed;
 use crate::signs::complement;
 ghost use Prim.Native.Nat.{_-_, _≤_, _<_};
 ghost use lib.IntN.{pos, negℤ};
@@ -14,13 +15,6 @@ pub enum Limited {
     Malformed,
     Outside,
     Value(u64),
-}
-
-// A text read as a signed decimal: no decimal, one outside i64, or its number. Only the private readers use it.
-pub enum Signed {
-    Malformed,
-    Outside,
-    Number(i64),
 }
 
 // What the public reader gives: 0 and the number, or 11 and 0.

@@ -25,6 +25,7 @@ use Rattle.phc.specs.Records.{recordAllLength, recordedAll}
 use Rattle.phc.specs.Writing.{handed}
 use Rattle.phc.specs.Claims.{PhcClaims}
 use Rattle.phc.proofs.RecordAllLaws.{fits-number}
+use Rattle.phc.proofs.WrittenBack.{written-back}
 
 -- no profile permits the version 0
 unnumbered : Profile → Bool
@@ -57,4 +58,4 @@ record-all-number s «record» buffer h k =
     ∙ sym (reading-number editionTwo s)
 
 pub phc-claims : PhcClaims
-phc-claims = record { enough = record-all-number; flag = flag-refused }
+phc-claims = record { enough = record-all-number; flag = flag-refused; written-back = written-back }

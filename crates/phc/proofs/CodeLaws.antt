@@ -1,19 +1,39 @@
--- One answer for a count or a number.
+-- One answer for what was found or a number.
 -- Assumes nothing.
-use Prim.Native.Nat.{ℕ, _*_}
+use Prim.Native.Nat.{ℕ, zero, suc, _*_, _≤_}
+use mathlib.Core.Bool.{Bool, true, false, not, cond, _&&_, and-false}
 use mathlib.Core.List.{List}
-use mathlib.Core.Path.{_≡_, ap, _∙_}
+use mathlib.Core.Path.{_≡_, refl, ap}
 use native.Mathlib.Omega.{arith}
-use borrow.Author.Tests.{ne-eqb}
+use lib.Dec.{leb, eqb}
+use borrow.Author.Tests.{eqb-true, eqb-false, lt-leb}
 use Rattle.text.specs.Place.{Outcome, outcome}
-use Rattle.phc.specs.Records.{coded}
+use Rattle.text.proofs.Tests.{to-within}
+use Rattle.phc.specs.Records.{codeOf, coded, isRefusal}
 
 module _ (n c : ℕ) (left : List ℕ) (o : Outcome) (e : outcome n c left ≡ o) where
   pub left-is : left ≡ o .buffer
   left-is = ap (λ (x : Outcome). x .buffer) e
 
-  pub refused-is : (n ≡ 0 → ⊥) → n ≡ coded o
-  refused-is z = (let q : n ≡ coded (outcome n c left) = rw (ne-eqb n 0 z) in q) ∙ ap coded e
+  pub coded-is : codeOf n c ≡ coded o
+  coded-is = ap coded e
 
-  pub done-is : n ≡ 0 → c * 100 ≡ coded o
-  done-is z = (let q : c * 100 ≡ coded (outcome n c left) = rw z (omega arith) in q) ∙ ap coded e
+-- a hundred times what was found is none of 1 to 99
+found-tells : (found : ℕ) → isRefusal (100 * found) ≡ false
+found-tells zero = refl
+found-tells (suc k) = let h = lt-leb (100 * suc k) 99 (omega arith) in rw h (and-false (leb 1 (100 * suc k)))
+
+-- so the answer says whether it is a refusal
+pub code-tells : (number found : ℕ) → number ≤ 99 → isRefusal (codeOf number found) ≡ not (eqb number 0)
+code-tells number found h = go (eqb number 0) refl
+  where
+    go : (b : Bool) → eqb number 0 ≡ b → isRefusal (cond b (100 * found) number) ≡ not b
+    go true e = found-tells found
+    go false e = let z = eqb-false number 0 e in to-within 1 99 number (omega (arith, z)) h
+
+pub number-tells : (number : ℕ) → number ≤ 99 → isRefusal number ≡ not (eqb number 0)
+number-tells number h = go (eqb number 0) refl
+  where
+    go : (b : Bool) → eqb number 0 ≡ b → isRefusal number ≡ not b
+    go true e = rw (eqb-true number 0 e)
+    go false e = let z = eqb-false number 0 e in to-within 1 99 number (omega (arith, z)) h

@@ -2,4 +2,6 @@ pub mod CodeLaws
 pub mod SizeLaws
 pub mod RecordLaws
 pub mod RecordAllLaws
+pub mod WrittenBack
+pub mod Refusals
 pub mod Claims

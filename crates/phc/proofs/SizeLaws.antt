@@ -2,7 +2,7 @@
 -- Assumes nothing.
 use Prim.Native.Nat.{ℕ, _≤_}
 use mathlib.Core.List.{List, [], _∷_}
-use mathlib.Core.Path.{_≡_}
+use mathlib.Core.Path.{_≡_, _∙_}
 use native.Mathlib.Omega.{arith}
 use lib.ListN.{length}
 use Rattle.text.specs.Place.{outcome}
@@ -11,9 +11,9 @@ use Rattle.b64.proofs.B64Laws.{length-encode}
 use Rattle.table.specs.Limits.{editionTwo, room}
 use Rattle.profile.specs.Fields.{FieldSet, chosen, writeBytes}
 use Rattle.profile.specs.Reader.{answer, fieldsOf}
-use Rattle.profile.specs.Writer.{Allows, refusal, formatted}
+use Rattle.profile.specs.Writer.{Allows, refusal, formatted, shortFields}
 use Rattle.profile.specs.PieceTexts.{taggedLength}
-use Rattle.profile.specs.Entries.{decoded, writing}
+use Rattle.profile.specs.Entries.{decoded, writing, shortWriting}
 use Rattle.profile.specs.declared.fields.ByteString.{ByteString}
 use Rattle.profile.specs.declared.fields.ByteString.the-variants.{Keyid, Data, Salt, Output}
 use Rattle.profile.proofs.Allows.{here, allowed}
@@ -21,6 +21,7 @@ use Rattle.profile.proofs.SoundLaws.{edition-two-sound}
 use Rattle.profile.proofs.Texts.{formatted-length}
 use Rattle.profile.proofs.Lengths.{most-room}
 use Rattle.profile.proofs.Accepted.{accepted}
+use Rattle.profile.proofs.Promises.{promises}
 
 -- ---- written
 
@@ -29,6 +30,12 @@ unfolding writing
 written-small f buffer number count left e z =
     let q = after-counted (refusal editionTwo f) buffer (formatted editionTwo f) number count left e z in
     omega (arith, q .1, most-room f (allowed editionTwo f (q .0)))
+
+-- the short writer is the writer for its defaults
+pub short-small : (k : ℕ) (salt output buffer : List ℕ) (number count : ℕ) (left : List ℕ) → outcome number count left ≡ shortWriting editionTwo k salt output buffer 0
+    → number ≡ 0 → count ≤ room
+short-small k salt output buffer number count left e z =
+    written-small (shortFields editionTwo k salt output) buffer number count left (e ∙ promises .short-agrees .writes k salt output buffer 0) z
 
 -- ---- decoded
 

@@ -1,9 +1,10 @@
 -- What the exported functions give: a record as bytes, and a count or a number in one answer.
 -- Assumes nothing.
 use Prim.Native.Nat.{ℕ, _*_, _/_, _%_}
-use mathlib.Core.Bool.{cond}
+use mathlib.Core.Bool.{Bool, cond}
 use mathlib.Core.List.{List, [], _∷_, _++_}
 use lib.Dec.{eqb}
+use Rattle.text.specs.Text.{within}
 use Rattle.text.specs.Place.{Outcome, putAfter}
 use Rattle.table.specs.Limits.{editionTwo}
 use Rattle.table.specs.declared.version.Version.{Version}
@@ -76,6 +77,14 @@ recordedAll s «record» buffer =
 
 -- ---- one answer
 
--- a hundred times the count, or the refusal's number
+-- a hundred times what was found, or the refusal's number
+abbrev pub codeOf : ℕ → ℕ → ℕ
+codeOf number found = cond (eqb number 0) (100 * found) number
+
+-- of an outcome: what was found is its count
 abbrev pub coded : Outcome → ℕ
-coded o = cond (eqb (o .number) 0) (100 * o .count) (o .number)
+coded o = codeOf (o .number) (o .count)
+
+-- the answers that are refusals' numbers
+abbrev pub isRefusal : ℕ → Bool
+isRefusal answer = within 1 99 answer

@@ -1,5 +1,6 @@
 // The profile's entries for programs in other languages: numbers and byte slices, under C names (include/phc.h).
+mod code;
+pub mod read_all;
 pub mod reading;
 mod record;
-pub mod read_all;
 pub mod writing;

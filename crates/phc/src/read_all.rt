@@ -1,5 +1,5 @@
 // All that a string carries, in one call: the record with the counts after it, and the four byte strings.
-use crate::record::WHOLE_LEN;
+use crate::record::RECORD_ALL_LEN;
 use crate::record::put_record_all;
 use fast_path::reader::read;
 use fast_path::reader::read_all;
@@ -29,7 +29,7 @@ fn number_or_full(s: &[u8]) -> u64
 pub extern "C" fn phc_read_all(s: &[u8], record: &mut [u8], buf: &mut [u8]) -> u64
     ensures { λ r. ⌜ allOutcome r (now («record» .exit)) (now (buf .exit)) ≡ recordedAll (now (s .entry)) (now («record» .entry)) (now (buf .entry)) ⌝ }
 {
-    if record.len() < WHOLE_LEN {
+    if record.len() < RECORD_ALL_LEN {
         return number_or_full(s);
     }
     let c = read_all(s, buf, 0);

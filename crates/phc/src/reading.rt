@@ -1,15 +1,17 @@
-// Reading: the record of a string, and each of its byte strings.
+// Reading: the record of a string, its algorithm version, and each of its byte strings.
+use crate::code::code_of;
 use crate::record::RECORD_LEN;
 use crate::record::put_record;
 use fast_path::reader::read;
 use profile::fields::ByteString;
+use profile::reader::algorithm_version_of;
 use profile::reader::byte_string;
 use text::numbers::NO_ROOM;
 ghost use mathlib.Core.Path.{_≡_};
 ghost use Rattle.table.specs.Limits.{editionTwo};
-ghost use Rattle.profile.specs.Entries.{decoded};
+ghost use Rattle.profile.specs.Entries.{algorithmVersion, decoded};
 ghost use Rattle.profile.specs.declared.fields.ByteString.the-variants.{Keyid, Data, Salt, Output};
-ghost use Rattle.phc.specs.Records.{recorded, coded};
+ghost use Rattle.phc.specs.Records.{recorded, codeOf, coded};
 
 // 0 and the record in the first 20 bytes, or the reader's number; then 17.
 #[no_mangle]
@@ -28,17 +30,22 @@ pub extern "C" fn phc_read(s: &[u8], record: &mut [u8]) -> u64
     0
 }
 
+// The algorithm version that a string means: a hundred times it, or the reader's number.
+#[no_mangle]
+pub extern "C" fn phc_algorithm_version(s: &[u8]) -> u64
+    ensures { λ r. ⌜ r ≡ codeOf (algorithmVersion editionTwo (now (s .entry)) .number) (algorithmVersion editionTwo (now (s .entry)) .version) ⌝ }
+{
+    let v = algorithm_version_of(read(s));
+    code_of(v.number, v.version as u64)
+}
+
 // One byte string into the buffer from its start: a hundred times the count, or the refusal's number.
 fn decode_one(s: &[u8], choice: ByteString, buf: &mut [u8]) -> u64
     ensures { λ r. ⌜ (r ≡ coded (decoded editionTwo choice (now (s .entry)) (now (buf .entry)) 0)) × (now (buf .exit) ≡ decoded editionTwo choice (now (s .entry)) (now (buf .entry)) 0 .buffer) ⌝ }
 {
     let r = byte_string(s, choice, buf, 0);
-    let number = r.number;
-    if number != 0 {
-        return number as u64;
-    }
     let count = r.count;
-    count.0 as u64 * 100
+    code_of(r.number, count.0 as u64)
 }
 
 #[no_mangle]

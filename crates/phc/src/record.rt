@@ -14,7 +14,7 @@ ghost use Rattle.phc.specs.Records.{versionFlag, versionNumber, words, h
 // The bytes of a record, and of one with the counts after it.
 pub const RECORD_LEN: usize = 20;
 
-pub const WHOLE_LEN: usize = 36;
+pub const RECORD_ALL_LEN: usize = 36;
 
 // The lowest eight bits.
 fn low(n: usize) -> u8

@@ -1,10 +1,12 @@
-// Writing: the string of the nine fields.
+// Writing: the string of the nine fields, and that of id, salt and output alone.
+use crate::code::code_of;
 use profile::fields::Fields;
 use profile::writer::write;
+use profile::writer::write_short;
 use table::version::Version;
 ghost use mathlib.Core.Path.{_≡_};
 ghost use Rattle.table.specs.Limits.{editionTwo};
-ghost use Rattle.profile.specs.Entries.{writing};
+ghost use Rattle.profile.specs.Entries.{writing, shortWriting};
 ghost use Rattle.phc.specs.Records.{coded};
 ghost use Rattle.phc.specs.Writing.{versionField, handed};
 
@@ -44,10 +46,16 @@ pub extern "C" fn phc_write(
         p,
     };
     let w = write(fields, keyid, data, salt, output, buf, 0);
-    let number = w.number;
-    if number != 0 {
-        return number as u64;
-    }
     let count = w.count;
-    count.0 as u64 * 100
+    code_of(w.number, count.0 as u64)
+}
+
+// The same for an id, a salt and an output, with the short writer's defaults and no keyid or data.
+#[no_mangle]
+pub extern "C" fn phc_write_short(id: u8, salt: &[u8], output: &[u8], buf: &mut [u8]) -> u64
+    ensures { λ r. ⌜ (r ≡ coded (shortWriting editionTwo id (now (salt .entry)) (now (output .entry)) (now (buf .entry)) 0)) × (now (buf .exit) ≡ shortWriting editionTwo id (now (salt .entry)) (now (output .entry)) (now (buf .entry)) 0 .buffer) ⌝ }
+{
+    let w = write_short(id, salt, output, buf, 0);
+    let count = w.count;
+    code_of(w.number, count.0 as u64)
 }

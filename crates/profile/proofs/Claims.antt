@@ -1,4 +1,4 @@
--- The claims of specs/Claims.antt but `ShortAgrees` and `Examples`, proved: over every edition that passes the tests that they take, and for edition two.
+-- Demand 3, the agreement of the entries, lengths and lanes: over every edition that passes the tests that they take, and for edition two.
 -- Assumes nothing.
 use Prim.Native.Nat.{ℕ, _+_, _≤_}
 use mathlib.Core.Bool.{Bool, true, not, _||_}
@@ -18,7 +18,8 @@ use Rattle.profile.specs.Fields.{FieldSet, chosen, writeBytes}
 use Rattle.profile.specs.Reader.{answer, fieldsOf}
 use Rattle.profile.specs.Writer.{OfBytes, Permitted, refusal, fieldPieces, formatted}
 use Rattle.profile.specs.Entries.{kindOf, reading, decoded, writing}
-use Rattle.profile.specs.Claims.{Demand3, WrittenAt, WrittenTo, Carries, CarrySame, EntriesDemand3, EntriesAgree, Lanes, Lengths}
+use Rattle.profile.specs.Spelling.{Demand3}
+use Rattle.profile.specs.Claims.{ruleSpelling, WrittenAt, WrittenTo, Carries, entrySpelling, EntriesDemand3, EntriesAgree, Lanes, Lengths}
 use Rattle.profile.specs.Sound.{sound}
 use Rattle.profile.specs.declared.fields.ByteString.{ByteString}
 use Rattle.profile.specs.declared.fields.ByteString.the-variants.{Keyid, Data, Salt, Output}
@@ -27,22 +28,22 @@ use Rattle.profile.proofs.ReadLaws.{reading-number}
 use Rattle.profile.proofs.SoundLaws.{at-id, edition-two-sound}
 use Rattle.profile.proofs.Written.{pieces-of, written}
 use Rattle.profile.proofs.Accepted.{accepted}
-use Rattle.profile.proofs.Demand3.{not-refused, permitted, same-string, same-fields, refused-exactly}
+use Rattle.profile.proofs.Demand3.{not-refused, permitted, demand-3-of}
 use Rattle.profile.proofs.Lengths.{bounds-two, most-room}
 
 -- ---- demand 3, over the rules
 
-pub demand-3 : (e : List Profile) → sound e ≡ true → Demand3 e
+pub demand-3 : (e : List Profile) → sound e ≡ true → Demand3 (ruleSpelling e)
 demand-3 e ok =
-    record {
-      same-string = same-string e ok;
-      same-fields = same-fields e ok;
-      refused-exactly = refused-exactly e ok;
-      written-back = accepted e ok;
-    }
-
-pub demand-3-two : Demand3 editionTwo
-demand-3-two = demand-3 editionTwo edition-two-sound
+    demand-3-of (ruleSpelling e)
+    (record {
+      some = λ s a. (fieldsOf e s, (a, refl));
+      accepted = λ s f c. c .0;
+      one = λ s f g c d. sym (c .1) ∙ d .1;
+      back = λ s f c. subst (λ (g : FieldSet). Permitted e g × (formatted e g ≡ s)) (c .1) (accepted e ok s (c .0));
+      carried = λ f s p q. subst (λ (u : List ℕ). (answer e u ≡ 0) × (fieldsOf e u ≡ f)) q (written e ok f p);
+      one-string = λ f s u p q r. sym q ∙ r;
+    })
 
 -- ---- outcomes
 
@@ -83,21 +84,30 @@ entries-agree e ok =
 
 -- ---- demand 3, of the outcomes
 
-module _ (e : List Profile) (s u : List ℕ) (a : answer e s ≡ 0) (b : answer e u ≡ 0) (h : CarrySame e s u) where
+zero : (e : List Profile) (s : List ℕ) → reading e s .number ≡ 0 → answer e s ≡ 0
+zero e s z = sym (reading-number e s) ∙ z
+
+module _ (e : List Profile) (s : List ℕ) (f : FieldSet) (h : Carries e s f) where
+  -- the byte-string entry answers 0 where there is room
+  carrying : answer e s ≡ 0
+  unfolding decoded
+  carrying =
+      let x = f .keyid in
+      after-zero (answer e s) x 0 (fieldsOf e s .keyid) (ap (λ (o : Outcome). o .number) (h .strings Keyid x 0 (omega arith))) .0
+
   -- each byte string, decoded into a buffer with room for both
-  same-bytes : (c : ByteString) → chosen c (fieldsOf e s) ≡ chosen c (fieldsOf e u)
+  same-bytes : (c : ByteString) → chosen c (fieldsOf e s) ≡ chosen c f
   unfolding decoded
   same-bytes c =
       let x = chosen c (fieldsOf e s) in
-      let y = chosen c (fieldsOf e u) in
+      let y = chosen c f in
       let buffer = x ++ y in
       let l = length-append x y in
-      over-same buffer 0 x y (omega arith)
-      (sym (after-done (answer e s) buffer 0 x a (omega arith)) ∙ h .strings c buffer 0 ∙ after-done (answer e u) buffer 0 y b (omega arith))
+      over-same buffer 0 x y (omega arith) (sym (after-done (answer e s) buffer 0 x carrying (omega arith)) ∙ h .strings c buffer 0 (omega arith))
 
-  same-carried : fieldsOf e s ≡ fieldsOf e u
+  same-carried : fieldsOf e s ≡ f
   same-carried =
-      let n = sym (reading-fields e s a) ∙ h .fields ∙ reading-fields e u b in
+      let n = sym (reading-fields e s carrying) ∙ h .fields in
       let keyid = same-bytes Keyid in
       let «data» = same-bytes Data in
       let salt = same-bytes Salt in
@@ -108,44 +118,41 @@ module _ (e : List Profile) (s u : List ℕ) (a : answer e s ≡ 0) (b : answer 
 abbrev wide : List ℕ
 wide = replicate room 0
 
-pub entries-demand-3 : (e : List Profile) → sound e ≡ true → ((f : FieldSet) → Permitted e f → length (formatted e f) ≤ room) → EntriesDemand3 e
-entries-demand-3 e ok short =
-    record {
-      same-string = λ s u a b h. same-string e ok s u (zero s a) (zero u b) (same-carried e s u (zero s a) (zero u b) h);
-      same-fields = λ f g s b c i j o q v w.
-          let x = wrote f s b i o v in
-          let y = wrote g s c j q w in
-          same-fields e ok f g (x .0) (y .0) (x .1 ∙ sym (y .1));
-      refused-exactly = λ s. (
-        (λ n f buffer at b w.
-            let p = wrote f s buffer at b w in
-            n (reading-number e s ∙ ap (answer e) (sym (p .1)) ∙ written e ok f (p .0) .0)),
-        (λ none z.
-            let k = back s z in
-            none (fieldsOf e s) wide 0 (k .1) (k .2 wide 0 (omega arith))),
-      );
-      written-back = back;
-    }
-  where
-    agree : EntriesAgree e
-    agree = entries-agree e ok
+module _ (e : List Profile) (ok : sound e ≡ true) (short : (f : FieldSet) → Permitted e f → length (formatted e f) ≤ room) where
+  agree : EntriesAgree e
+  agree = entries-agree e ok
 
-    zero : (s : List ℕ) → reading e s .number ≡ 0 → answer e s ≡ 0
-    zero s z = sym (reading-number e s) ∙ z
+  -- a call with the room writes permitted fields to their string
+  calls : (f : FieldSet) → Permitted e f → (buffer : List ℕ) (at : ℕ) → at + room ≤ length buffer → WrittenAt e f (formatted e f) buffer at
+  calls f p buffer at r = let l = short f p in agree .writes f p buffer at (omega arith)
 
-    wrote : (f : FieldSet) (s buffer : List ℕ) (at : ℕ) → OfBytes f → WrittenAt e f s buffer at → Permitted e f × (formatted e f ≡ s)
-    wrote f s buffer at b w =
-        let p = agree .writes-only f b buffer at (ap (λ (o : Outcome). o .number) w) in
-        (p .0, over-same buffer at (formatted e f) s (omega (arith, p .1)) (sym (agree .writes f (p .0) buffer at (p .1)) ∙ w))
+  wrote : (f : FieldSet) (s : List ℕ) → Permitted e f → WrittenTo e f s → formatted e f ≡ s
+  wrote f s p w =
+      let r = w .has-room in
+      over-same (w .buffer) (w .place) (formatted e f) s (omega arith) (sym (calls f p (w .buffer) (w .place) r) ∙ w .written)
 
-    back : (s : List ℕ) → reading e s .number ≡ 0 → Carries e s (fieldsOf e s) × OfBytes (fieldsOf e s) × WrittenTo e (fieldsOf e s) s
-    back s z =
-        let a = accepted e ok s (zero s z) in
-        let l = short (fieldsOf e s) (a .0) in (
-          carries e s (zero s z),
-          a .0 .bytes,
-          λ buffer at r. agree .writes (fieldsOf e s) (a .0) buffer at (omega arith) ∙ (λ i. outcome 0 (length (a .1 i)) (over buffer at (a .1 i))),
-        )
+  back : (s : List ℕ) (f : FieldSet) → Carries e s f → Permitted e f × WrittenTo e f s
+  back s f c =
+      let a = accepted e ok s (carrying e s f c) in
+      let p = subst (Permitted e) (same-carried e s f c) (a .0) in
+      let q : formatted e f ≡ s = ap (formatted e) (sym (same-carried e s f c)) ∙ a .1 in
+      (p, record { buffer = wide; place = 0; has-room = omega arith; written = subst (λ (u : List ℕ). WrittenAt e f u wide 0) q (calls f p wide 0 (omega arith)) })
+
+  pub entries-demand-3 : EntriesDemand3 e
+  entries-demand-3 =
+      record {
+        demand-3 =
+            demand-3-of (entrySpelling e)
+            (record {
+              some = λ s z. (fieldsOf e s, carries e s (zero e s z));
+              accepted = λ s f c. reading-number e s ∙ carrying e s f c;
+              one = λ s f g c d. sym (same-carried e s f c) ∙ same-carried e s g d;
+              back = back;
+              carried = λ f s p w. subst (λ (u : List ℕ). Carries e u f) (wrote f s p w) (agree .carries f p);
+              one-string = λ f s u p v w. sym (wrote f s p v) ∙ wrote f u p w;
+            });
+        every-call = λ f s p w buffer at r. subst (λ (u : List ℕ). WrittenAt e f u buffer at) (wrote f s p w) (calls f p buffer at r);
+      }
 
 -- ---- edition two: lengths, agreement, lanes
 
@@ -157,9 +164,6 @@ lengths =
       pbkdf2-most = λ f h k. rw (lt-leb (f .numbers .id) 3 k) at (bounds-two f (h .column) .0);
       pbkdf2-least = λ f h k o. rw (lt-leb (f .numbers .id) 3 k) at (bounds-two f (h .column) .1 o);
     }
-
-pub entries-demand-3-two : EntriesDemand3 editionTwo
-entries-demand-3-two = entries-demand-3 editionTwo edition-two-sound (lengths .any-most)
 
 pub entries-agree-two : EntriesAgree editionTwo
 entries-agree-two = entries-agree editionTwo edition-two-sound
@@ -183,7 +187,7 @@ pub lanes : Lanes
 lanes =
     record {
       lane = λ s z k.
-          let a : answer editionTwo s ≡ 0 = sym (reading-number editionTwo s) ∙ z in
+          let a = zero editionTwo s z in
           let h = accepted editionTwo edition-two-sound s a .0 in
           let q = reading-fields editionTwo s a in
           rw q (one-lane (fieldsOf editionTwo s) h (rw q at k), ltb-false _ _ (h .column .lanes));

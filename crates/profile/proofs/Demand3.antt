@@ -1,18 +1,13 @@
--- The writer's number is 0 exactly for permitted fields, and the claims of demand 3, for every edition that passes the test `sound`.
+-- Demand 3 of any spelling in which carrying and being written to are one; and the writer's number is 0 exactly for permitted fields.
 -- Assumes nothing.
 use Prim.Native.Nat.{ℕ}
-use mathlib.Core.Bool.{true}
 use mathlib.Core.List.{List}
-use mathlib.Core.Logic.{_↔_, _≢_}
-use mathlib.Core.Path.{_≡_, sym, _∙_, ap}
+use mathlib.Core.Path.{_≡_}
 use Rattle.table.specs.Limits.{Profile}
 use Rattle.profile.specs.Fields.{FieldSet}
-use Rattle.profile.specs.Reader.{answer, fieldsOf}
-use Rattle.profile.specs.Writer.{OfBytes, Permitted, refusal, formatted}
-use Rattle.profile.specs.Sound.{sound}
+use Rattle.profile.specs.Writer.{OfBytes, Permitted, refusal}
+use Rattle.profile.specs.Spelling.{Spelling, Demand3}
 use Rattle.profile.proofs.Allows.{allowed, allowed-zero}
-use Rattle.profile.proofs.Written.{written}
-use Rattle.profile.proofs.Accepted.{accepted}
 
 -- ---- permitted fields and the writer's number
 
@@ -22,22 +17,27 @@ not-refused e f h = allowed-zero e f (h .column)
 pub permitted : (e : List Profile) (f : FieldSet) → refusal e f ≡ 0 → OfBytes f → Permitted e f
 permitted e f z b = record { column = allowed e f z; bytes = b }
 
--- ---- the claims
+-- ---- a spelling
 
-module _ (e : List Profile) (ok : sound e ≡ true) where
-  -- the fields that an accepted string carries are written back to exactly that string
-  back : (s : List ℕ) → answer e s ≡ 0 → formatted e (fieldsOf e s) ≡ s
-  back s z = accepted e ok s z .1
+-- an accepted string carries fields, one set of them; a string carries the fields that are written to it, and no others; fields are written to
+-- one string
+pub record OneToOne (w : Spelling) : Type 0 where
+  pub some : (s : List ℕ) → w .Accepted s → (f : FieldSet) × w .Carries s f
+  pub accepted : (s : List ℕ) (f : FieldSet) → w .Carries s f → w .Accepted s
+  pub one : (s : List ℕ) (f g : FieldSet) → w .Carries s f → w .Carries s g → f ≡ g
+  pub back : (s : List ℕ) (f : FieldSet) → w .Carries s f → w .Permitted f × w .WrittenTo f s
+  pub carried : (f : FieldSet) (s : List ℕ) → w .Permitted f → w .WrittenTo f s → w .Carries s f
+  pub one-string : (f : FieldSet) (s u : List ℕ) → w .Permitted f → w .WrittenTo f s → w .WrittenTo f u → s ≡ u
 
-  -- two different accepted strings never carry the same fields
-  pub same-string : (s u : List ℕ) → answer e s ≡ 0 → answer e u ≡ 0 → fieldsOf e s ≡ fieldsOf e u → s ≡ u
-  same-string s u a b q = sym (back s a) ∙ ap (formatted e) q ∙ back u b
-
-  -- two different permitted sets of fields are never written to the same string
-  pub same-fields : (f g : FieldSet) → Permitted e f → Permitted e g → formatted e f ≡ formatted e g → f ≡ g
-  same-fields f g a b q = sym (written e ok f a .1) ∙ ap (fieldsOf e) q ∙ written e ok g b .1
-
-  -- a string is refused exactly when no permitted set of fields is written to it
-  pub refused-exactly : (s : List ℕ) → (answer e s ≢ 0) ↔ ((f : FieldSet) → Permitted e f → formatted e f ≢ s)
-  refused-exactly s =
-      (λ refused f h q. refused (ap (answer e) (sym q) ∙ written e ok f h .0), λ none z. none (fieldsOf e s) (accepted e ok s z .0) (back s z))
+pub demand-3-of : (w : Spelling) → OneToOne w → Demand3 w
+demand-3-of w h =
+    record {
+      same-string = λ s u f a b. h .one-string f s u (h .back s f a .0) (h .back s f a .1) (h .back u f b .1);
+      same-fields = λ f g s a b v x. h .one s f g (h .carried f s a v) (h .carried g s b x);
+      refused-exactly = λ s. (
+        (λ refused f a v. refused (h .accepted s f (h .carried f s a v))),
+        (λ none a. let (f, c) = h .some s a in none f (h .back s f c .0) (h .back s f c .1)),
+      );
+      written-back = h .back;
+      carries = λ s. (h .some s, λ q. h .accepted s (q .0) (q .1));
+    }

@@ -16,3 +16,5 @@ pub mod JudgeLaws
 pub mod ReadLaws
 pub mod WriterLaws
 pub mod Claims
+pub mod Refusals
+pub mod Promises

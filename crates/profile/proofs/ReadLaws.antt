@@ -39,7 +39,7 @@ use Rattle.profile.specs.declared.fields.ByteString.{ByteString}
 use Rattle.profile.specs.declared.fields.ByteString.the-variants.{Keyid, Data, Salt, Output}
 use Rattle.profile.specs.declared.judge.Judgement.{Judgement}
 use Rattle.profile.specs.declared.values.Values.{Values}
-use Rattle.profile.specs.declared.reader.ParsedString.{ParsedString}
+use Rattle.profile.specs.declared.parsed.ParsedString.{ParsedString}
 use Rattle.profile.proofs.Accepted.{params-all}
 use Rattle.profile.proofs.OptionalTextLaws.{optional-none, optional-some}
 

@@ -1,61 +1,97 @@
--- What is proved of the rules and of the entries' outcomes. The values are in proofs/Claims.antt; of `ShortAgrees` in proofs/Shorts.antt, of
--- `Examples` in proofs/Strings.antt.
+-- The promises: the record `Promises`, at the end, says what is proved of document 01's table, and proofs/Promises.antt has its one value. Its
+-- parts stand above it, over any edition where they can be; of `Demand3` in specs/Spelling.antt.
 -- Assumes nothing.
 use Prim.Native.Nat.{ℕ, _+_, _*_, _≤_}
 use Prim.Native.String.{String}
 use mathlib.Core.Path.{_≡_}
-use mathlib.Core.Bool.{true, false}
-use mathlib.Core.List.{List, map}
-use mathlib.Core.Logic.{_↔_, _≢_}
+use mathlib.Core.Bool.{Bool, true, false, _||_}
+use mathlib.Core.List.{List, [], _∷_, map}
+use mathlib.Core.Logic.{_≢_}
+use lib.Dec.{eqb}
 use lib.ListN.{length}
-use Rattle.text.specs.Text.{text, all, empty, isByte}
-use Rattle.text.specs.Place.{outcome, over}
+use Rattle.text.specs.Text.{text, within, all, has, empty, isByte}
+use Rattle.text.specs.Place.{outcome, over, Refuses}
 use Rattle.table.specs.Limits.{Profile, editionTwo, room}
 use Rattle.profile.specs.Fields.{FieldSet, chosen, writeBytes}
 use Rattle.profile.specs.Reader.{answer, fieldsOf}
 use Rattle.profile.specs.Writer.{OfBytes, Permitted, formatted, shortFields, shortRefusal}
-use Rattle.profile.specs.Entries.{reading, decoded, writing, shortWriting, kindOf}
+use Rattle.profile.specs.Entries.{refusedReading, reading, kindOf, algorithmVersion, decoded, writing, shortWriting}
+use Rattle.profile.specs.Spelling.{Spelling, Demand3}
 use Rattle.profile.specs.Strings.{boundaryStrings, extremes}
 use Rattle.profile.specs.declared.fields.ByteString.{ByteString}
 
--- demand 3, over the rules of an edition
-pub record Demand3 (e : List Profile) : Type 0 where
-  -- two different accepted strings never carry the same fields
-  pub same-string : (s u : List ℕ) → answer e s ≡ 0 → answer e u ≡ 0 → fieldsOf e s ≡ fieldsOf e u → s ≡ u
-  -- two different permitted sets of fields are never written to the same string
-  pub same-fields : (f g : FieldSet) → Permitted e f → Permitted e g → formatted e f ≡ formatted e g → f ≡ g
-  -- a string is refused exactly when no permitted set of fields is written to it
-  pub refused-exactly : (s : List ℕ) → (answer e s ≢ 0) ↔ ((f : FieldSet) → Permitted e f → formatted e f ≢ s)
-  -- the fields of an accepted string are permitted, and are written back to exactly that string
-  pub written-back : (s : List ℕ) → answer e s ≡ 0 → Permitted e (fieldsOf e s) × (formatted e (fieldsOf e s) ≡ s)
+-- ---- demand 1: what a refusal is
+
+-- the profile reader's numbers, the byte-string entry's, the writer's, and the short writer's
+abbrev pub readerNumber : ℕ → Bool
+readerNumber n = within 1 15 n
+
+abbrev pub byteStringNumber : ℕ → Bool
+byteStringNumber n = within 1 15 n || eqb n 17
+
+abbrev pub writerNumbers : List ℕ
+writerNumbers = 8 ∷ 9 ∷ 11 ∷ 12 ∷ 14 ∷ 15 ∷ 16 ∷ 17 ∷ []
+
+abbrev pub writerNumber : ℕ → Bool
+writerNumber n = has n writerNumbers
+
+abbrev pub shortWriterNumbers : List ℕ
+shortWriterNumbers = 8 ∷ 14 ∷ 15 ∷ 16 ∷ 17 ∷ []
+
+abbrev pub shortWriterNumber : ℕ → Bool
+shortWriterNumber n = has n shortWriterNumbers
+
+-- an all-zero record, version absent; no count, and the buffer as it was
+pub record Demand1 (e : List Profile) : Type 0 where
+  pub read : (s : List ℕ) → reading e s .number ≢ 0
+      → (readerNumber (reading e s .number) ≡ true) × (reading e s ≡ refusedReading (reading e s .number))
+  pub algorithm-version : (s : List ℕ) → algorithmVersion e s .number ≢ 0
+      → (readerNumber (algorithmVersion e s .number) ≡ true) × (algorithmVersion e s .version ≡ 0)
+  pub byte-string : (c : ByteString) (s buffer : List ℕ) (at : ℕ) → Refuses byteStringNumber buffer (decoded e c s buffer at)
+  pub write : (f : FieldSet) (buffer : List ℕ) (at : ℕ) → Refuses writerNumber buffer (writing e f buffer at)
+  pub write-short : (k : ℕ) (salt output buffer : List ℕ) (at : ℕ) → Refuses shortWriterNumber buffer (shortWriting e k salt output buffer at)
+
+-- ---- demand 3
+
+-- the spelling that an edition's rules are
+abbrev pub ruleSpelling : List Profile → Spelling
+ruleSpelling e =
+    record {
+      Accepted = λ (s : List ℕ). answer e s ≡ 0;
+      Carries = λ (s : List ℕ) (f : FieldSet). (answer e s ≡ 0) × (fieldsOf e s ≡ f);
+      Permitted = Permitted e;
+      WrittenTo = λ (f : FieldSet) (s : List ℕ). formatted e f ≡ s;
+    }
 
 -- fields are written to a string (01) by a call of the writer: it answers 0 and the bytes it wrote are that string
 abbrev pub WrittenAt : List Profile → FieldSet → List ℕ → List ℕ → ℕ → Type 0
 WrittenAt e f s buffer at = writing e f buffer at ≡ outcome 0 (length s) (over buffer at s)
 
--- by every call with room for any string of edition two
-abbrev pub WrittenTo : List Profile → FieldSet → List ℕ → Type 0
-WrittenTo e f s = (buffer : List ℕ) (at : ℕ) → at + room ≤ length buffer → WrittenAt e f s buffer at
+-- by a call with room for any string of edition two; 'its room counts from its place'
+pub record WrittenTo (e : List Profile) (f : FieldSet) (s : List ℕ) : Type 0 where
+  pub buffer : List ℕ
+  pub place : ℕ
+  pub has-room : place + room ≤ length buffer
+  pub written : WrittenAt e f s buffer place
 
--- a string carries fields (01): the reader gives the number fields, the byte-string entry each byte string where it fits
+-- a string carries fields (01): the profile reader gives the number fields, the byte-string entry each byte string where it fits
 pub record Carries (e : List Profile) (s : List ℕ) (f : FieldSet) : Type 0 where
   pub fields : reading e s .fields ≡ f .numbers
   pub strings : (c : ByteString) (buffer : List ℕ) (at : ℕ) → at + length (chosen c f) ≤ length buffer
       → decoded e c s buffer at ≡ outcome 0 (length (chosen c f)) (over buffer at (chosen c f))
 
--- two strings carry the same nine fields: the reader gives the same number fields, the byte-string entry the same outcomes
-pub record CarrySame (e : List Profile) (s u : List ℕ) : Type 0 where
-  pub fields : reading e s .fields ≡ reading e u .fields
-  pub strings : (c : ByteString) (buffer : List ℕ) (at : ℕ) → decoded e c s buffer at ≡ decoded e c u buffer at
+-- the spelling that the outcomes are which the contracts of the profile reader, the byte-string entry and the writer name
+abbrev pub entrySpelling : List Profile → Spelling
+entrySpelling e =
+    record { Accepted = λ (s : List ℕ). reading e s .number ≡ 0; Carries = Carries e; Permitted = Permitted e; WrittenTo = WrittenTo e }
 
--- demand 3, of the outcomes that the contracts of the profile reader, the byte-string entry and the writer name
 pub record EntriesDemand3 (e : List Profile) : Type 0 where
-  pub same-string : (s u : List ℕ) → reading e s .number ≡ 0 → reading e u .number ≡ 0 → CarrySame e s u → s ≡ u
-  pub same-fields : (f g : FieldSet) (s b c : List ℕ) (i j : ℕ) → OfBytes f → OfBytes g → WrittenAt e f s b i → WrittenAt e g s c j → f ≡ g
-  pub refused-exactly : (s : List ℕ)
-      → (reading e s .number ≢ 0) ↔ ((f : FieldSet) (buffer : List ℕ) (at : ℕ) → OfBytes f → WrittenAt e f s buffer at → ⊥)
-  pub written-back : (s : List ℕ) → reading e s .number ≡ 0
-      → Carries e s (fieldsOf e s) × OfBytes (fieldsOf e s) × WrittenTo e (fieldsOf e s) s
+  pub demand-3 : Demand3 (entrySpelling e)
+  -- what one call with the room writes, every such call does
+  pub every-call : (f : FieldSet) (s : List ℕ) → Permitted e f → WrittenTo e f s
+      → (buffer : List ℕ) (at : ℕ) → at + room ≤ length buffer → WrittenAt e f s buffer at
+
+-- ---- the entries among each other
 
 -- and fields that go out come back
 pub record EntriesAgree (e : List Profile) : Type 0 where
@@ -92,3 +128,15 @@ pub record Examples : Type 0 where
   pub numbers : map (λ (x : String × ℕ). answer editionTwo (text (x .0))) boundaryStrings ≡ map (λ (x : String × ℕ). x .1) boundaryStrings
   pub reached : map {B = ℕ × ℕ × ℕ} (λ (x : String × ℕ). (reading editionTwo (text (x .0)) .number, reading editionTwo (text (x .0)) .kind, length (text (x .0)))) extremes
       ≡ map (λ (x : String × ℕ). (0, 3, x .1)) extremes
+
+-- ---- the promises of document 01's table
+
+pub record Promises : Type 0 where
+  pub demand-1 : Demand1 editionTwo
+  pub demand-3 : Demand3 (ruleSpelling editionTwo)
+  pub entries-demand-3 : EntriesDemand3 editionTwo
+  pub entries-agree : EntriesAgree editionTwo
+  pub short-agrees : ShortAgrees editionTwo
+  pub lanes : Lanes
+  pub lengths : Lengths
+  pub examples : Examples

@@ -3,6 +3,7 @@ pub mod Reader
 pub mod Writer
 pub mod Sound
 pub mod Entries
+pub mod Spelling
 pub mod Claims
 pub mod Strings
 pub mod ReaderSteps

@@ -20,7 +20,7 @@ use Rattle.profile.specs.Entries.{reading}
 use Rattle.profile.specs.declared.judge.Judgement.{Judgement}
 use Rattle.profile.specs.declared.fields.ByteString.{ByteString}
 use Rattle.profile.specs.declared.fields.ByteString.the-variants.{Keyid, Data, Salt, Output}
-use Rattle.profile.specs.declared.reader.ParsedString.{ParsedString}
+use Rattle.profile.specs.declared.parsed.ParsedString.{ParsedString}
 use Rattle.profile.specs.declared.values.Values.{Values}
 
 -- the text of a span that may not be there

@@ -5,6 +5,7 @@ mod judge;
 mod name_field;
 mod number_field;
 pub mod numbers;
+mod parsed;
 pub mod reader;
 mod tagged;
 mod values;

@@ -1,9 +1,10 @@
 // The profile reader: kind and number fields of a string, or the number of the row that refuses it; and the byte-string entry.
+use crate::fields::AlgorithmVersion;
 use crate::fields::ByteString;
 use crate::fields::Fields;
-use crate::fields::AlgorithmVersion;
 use crate::fields::Reading;
 use crate::judge::judge;
+use crate::parsed::ParsedString;
 use crate::values::Values;
 use crate::values::no_values;
 use crate::values::values_in;
@@ -31,16 +32,8 @@ ghost use Rattle.grammar.specs.Rules.{isItem, grammarNumber};
 ghost use Rattle.grammar.specs.Layout.{placesOf};
 ghost use Rattle.table.specs.Limits.{editionTwo};
 ghost use Rattle.profile.specs.Fields.{readVersion};
-ghost use Rattle.profile.specs.Entries.{refusedReading, kindOf, versionOr, reading, algorithmVersion, decoded};
+ghost use Rattle.profile.specs.Entries.{refusedReading, kindOf, versionOr, algorithmVersionOf, reading, algorithmVersion, decoded};
 ghost use Rattle.profile.specs.ReaderSteps.{spanText, ValuesAre, chosenText, ParsedIs};
-
-// All that one reading of a string finds: the answer, the places of its pieces, and where the values of the names stand in the parameter
-// piece.
-pub struct ParsedString {
-    pub reading: Reading,
-    pub places: Places,
-    pub values: Values,
-}
 
 fn refused(number: u8) -> Reading
     ensures { λ r. ⌜ r ≡ refusedReading number ⌝ }
@@ -170,19 +163,24 @@ pub fn read(s: &[u8]) -> Reading
     parsed.reading
 }
 
-// The algorithm version that an accepted string means: the one written, or the profile's where none is written.
-pub fn algorithm_version(s: &[u8]) -> AlgorithmVersion
-    ensures { λ r. ⌜ r ≡ algorithmVersion editionTwo (now (s .entry)) ⌝ }
+// The algorithm version that a reading means: the one written, or the one that the profile implies. Of a refused string it is 0.
+pub fn algorithm_version_of(r: Reading) -> AlgorithmVersion
+    ensures { λ v. ⌜ v ≡ algorithmVersionOf editionTwo r ⌝ }
 {
-    let r = read(s);
-    let number = r.number;
     let fields = r.fields;
     let version = fields.version;
     let column = column_of(fields.id);
     AlgorithmVersion {
-        number,
+        number: r.number,
         version: version_or(column.implied, version),
     }
+}
+
+// The algorithm version that a string means, or the reader's number and 0.
+pub fn algorithm_version(s: &[u8]) -> AlgorithmVersion
+    ensures { λ r. ⌜ r ≡ algorithmVersion editionTwo (now (s .entry)) ⌝ }
+{
+    algorithm_version_of(read(s))
 }
 
 // The text at a span; empty where it is not there.

@@ -7,6 +7,7 @@ use mathlib.Core.Path.{_≡_, refl, sym, _∙_}
 use native.Mathlib.Omega.{arith}
 use lib.Dec.{ltb}
 use borrow.Author.Tests.{ltb-true}
+use Rattle.text.specs.Text.{all}
 use Rattle.text.specs.Rows.{Row, firstOf}
 use Rattle.text.proofs.Tests.{both}
 
@@ -34,6 +35,18 @@ clear (r ∷ rs) t e =
 pub zero-of : (rs : List Row) → Clear rs → firstOf rs ≡ 0
 zero-of [] c = refl
 zero-of (r ∷ rs) c = rw (c .0) (zero-of rs (c .1))
+
+-- where one does, its number passes what all of theirs pass
+pub first-passes : (own : ℕ → Bool) (rs : List Row) → all (λ (r : Row). own (r .number)) rs ≡ true → (firstOf rs ≡ 0 → ⊥) → own (firstOf rs) ≡ true
+first-passes own [] a n = absurd (n refl)
+first-passes own (r ∷ rs) a n =
+    let q = both (own (r .number)) (all (λ (r : Row). own (r .number)) rs) a in
+    go (r .applies) (q .0) (first-passes own rs (q .1)) n
+  where
+    go : (b : Bool) → own (r .number) ≡ true → ((firstOf rs ≡ 0 → ⊥) → own (firstOf rs) ≡ true)
+        → (cond b (r .number) (firstOf rs) ≡ 0 → ⊥) → own (cond b (r .number) (firstOf rs)) ≡ true
+    go true p q h = p
+    go false p q h = q h
 
 pub clear-append : (rs ts : List Row) → Clear rs → Clear ts → Clear (rs ++ ts)
 clear-append [] ts c d = d

@@ -12,7 +12,7 @@ use lib.ListN.{length, take, drop, length-drop}
 use lib.Seq.{drop-at, drop-drop, length-take-le, drop-length, take-all, take-append-seam}
 use borrow.Author.Tests.{eqb-true, eq-eqb, ne-eqb, le-leb, lt-leb, leb-true, eqb-false}
 use borrow.Rule.Slice.PartMut.{putMid, post-is}
-use Rattle.text.specs.Place.{Outcome, outcome, refused, over, put, putAfter}
+use Rattle.text.specs.Place.{Outcome, outcome, refused, over, put, putAfter, Refuses}
 
 -- n bytes fit what is left after a place that lies inside
 pub leb-sub : (n at size : ℕ) → at ≤ size → leb n (size - at) ≡ leb (at + n) size
@@ -131,3 +131,15 @@ after-number n buffer bytes h = go (eqb n 0) refl
         let z = eqb-true n 0 t in
         ap (λ (o : Outcome). o .number) (after-done n buffer 0 bytes z (omega (arith, h z))) ∙ sym z
     go false t = sym (ap (λ (o : Outcome). o .number) (put-refused buffer 0 bytes n n refl (omega (arith, eqb-false n 0 t))))
+
+-- a refusal is the earlier number's, or 17
+pub after-refuses : (own : ℕ → Bool) (n : ℕ) (buffer : List ℕ) (at : ℕ) (bytes : List ℕ) → ((n ≡ 0 → ⊥) → own n ≡ true) → own 17 ≡ true
+    → Refuses own buffer (putAfter n buffer at bytes)
+unfolding putAfter put
+after-refuses own n buffer at bytes f k = go (eqb n 0) refl (leb (at + length bytes) (length buffer))
+  where
+    go : (b : Bool) → eqb n 0 ≡ b → (r : Bool)
+        → Refuses own buffer (cond b (cond r (outcome 0 (length bytes) (over buffer at bytes)) (refused 17 buffer)) (refused n buffer))
+    go true q true z = absurd (z refl)
+    go true q false z = (k, refl)
+    go false q r z = (f z, refl)

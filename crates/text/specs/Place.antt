@@ -2,8 +2,9 @@
 -- Assumes nothing.
 use Prim.Native.Nat.{ℕ, _+_}
 use mathlib.Core.Path.{_≡_}
-use mathlib.Core.Bool.{Bool, cond}
+use mathlib.Core.Bool.{Bool, true, cond}
 use mathlib.Core.List.{List, _++_}
+use mathlib.Core.Logic.{_≢_}
 use lib.Dec.{leb, eqb}
 use lib.ListN.{length, take, drop}
 
@@ -36,6 +37,10 @@ put buffer at bytes =
 -- the same after a number that may already refuse
 unfoldable pub putAfter : ℕ → List ℕ → ℕ → List ℕ → Outcome
 putAfter number buffer at bytes = cond (eqb number 0) (put buffer at bytes) (refused number buffer)
+
+-- where an outcome is a refusal, its number is one of the entry's own, nothing is counted, and the buffer is as it was
+abbrev pub Refuses : (ℕ → Bool) → List ℕ → Outcome → Type 0
+Refuses own buffer o = o .number ≢ 0 → (own (o .number) ≡ true) × (o ≡ refused (o .number) buffer)
 
 -- a text was put at the start of a buffer, and counted
 pub record Wrote (t before after : List ℕ) (count : ℕ) : Type 0 where

@@ -4,7 +4,7 @@ use native.Mathlib.Omega.{arith}
 use borrow.Author.Needs.{needs}
 use denote.Ref.{now}
 use Rattle.decimal.specs.Numerals.{decimalAnswer, decimalReading}
-use Rattle.decimal.specs.declared.reader.Signed.{Signed}
+use Rattle.decimal.specs.declared.signs.Signed.{Signed}
 use Rattle.decimal.proofs.SignSteps.{read-back}
 use Rattle.decimal.proofs.reader.read_decimal.Statement.{statement}
 use Rattle.decimal.proofs.reader.read_decimal.Tie as tie

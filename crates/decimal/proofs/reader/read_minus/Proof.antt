@@ -4,7 +4,7 @@ use borrow.Author.Needs.{needs}
 use denote.Ref.{now}
 use Rattle.decimal.specs.DecimalSteps.{unsignedReading, minus}
 use Rattle.decimal.specs.declared.reader.Limited.{Limited}
-use Rattle.decimal.specs.declared.reader.Signed.the-variants.{Number}
+use Rattle.decimal.specs.declared.signs.Signed.the-variants.{Number}
 use Rattle.decimal.proofs.SignSteps.{read-back, read-most, minus-zero, minus-other}
 use Rattle.decimal.proofs.reader.read_minus.Statement.{statement}
 use Rattle.decimal.proofs.reader.read_minus.Tie as tie

@@ -8,7 +8,7 @@ use mir.Syntax.{w64}
 use mir.ValLaws.{toZ-pos}
 use Rattle.decimal.specs.DecimalSteps.{unsignedReading, plain}
 use Rattle.decimal.specs.declared.reader.Limited.{Limited}
-use Rattle.decimal.specs.declared.reader.Signed.the-variants.{Number}
+use Rattle.decimal.specs.declared.signs.Signed.the-variants.{Number}
 use Rattle.decimal.proofs.SignSteps.{read-most}
 use Rattle.decimal.proofs.reader.read_plain.Statement.{statement}
 use Rattle.decimal.proofs.reader.read_plain.Tie as tie

@@ -1,6 +1,6 @@
 -- `phc::writing::phc_write` meets its contract. Assumes nothing.
-use native.Mathlib.Omega.{arith}
 use mathlib.Core.Path.{_≡_, ap, _∙_}
+use native.Mathlib.Omega.{arith}
 use borrow.Author.Needs.{needs}
 use denote.Ref.{now}
 use Rattle.text.specs.Place.{outcome}
@@ -9,7 +9,7 @@ use Rattle.table.specs.declared.version.Version.{Version}
 use Rattle.profile.specs.Fields.{FieldSet, fieldSet}
 use Rattle.profile.specs.Entries.{writing}
 use Rattle.phc.specs.Writing.{handed}
-use Rattle.phc.proofs.CodeLaws.{left-is, refused-is, done-is}
+use Rattle.phc.proofs.CodeLaws.{left-is, coded-is}
 use Rattle.phc.proofs.SizeLaws.{written-small}
 use Rattle.phc.proofs.writing.phc_write.Statement.{statement}
 use Rattle.phc.proofs.writing.phc_write.Tie as tie
@@ -30,36 +30,18 @@ said c =
     ∙ ap (λ (v : Version). writing editionTwo (fieldSet (record { id = a .id; version = v; m = a .m; t = a .t; p = a .p }) (now (a .keyid)) (now (a .«data»)) (now (a .salt)) (now (a .output))) (now (a .buf)) 0)
     (c .before .before .version-field .ensures)
 
+code-of-requires : tie.Need-code-of-requires
+code-of-requires c κs z =
+    let w = c .before .before .before in
+    let r = w .write .result in
+    omega (arith, written-small (fields (start w)) (now (start w .args .buf)) (r .number) (r .count .0) _ (said w) z)
+
 returns : tie.Need-returns
 returns c =
-    let w = c .before .before .before in
-    let o = writing editionTwo (fields (start w)) (now (start w .args .buf)) 0 in
-    let n = w .write .result .number in
-    let k = w .write .result .count .0 in
-    (refused-is n k _ o (said w) (c .if1 .taken), left-is n k _ o (said w))
-
-mul-result : tie.Need-mul-result
-mul-result c =
-    let w = c .before .before .before .before in
-    omega (arith, written-small (fields (start w)) (now (start w .args .buf)) (w .write .result .number) (w .write .result .count .0) _ (said w) (c .before .if1 .left))
-
-returns-2 : tie.Need-returns-2
-returns-2 c =
     let w = c .before .before .before .before in
     let o = writing editionTwo (fields (start w)) (now (start w .args .buf)) 0 in
-    let n = w .write .result .number in
-    let k = w .write .result .count .0 in
-    (done-is n k _ o (said w) (c .before .if1 .left), left-is n k _ o (said w))
+    let r = w .write .result in
+    (c .code-of .ensures ∙ coded-is (r .number) (r .count .0) _ o (said w), left-is (r .number) (r .count .0) _ o (said w))
 
 pub phc-write-spec : {M : Type 1} → statement M
-phc-write-spec =
-    tie.close
-    (tie.spec
-    (λ c κs. search needs)
-    (λ c κs. search needs)
-    (λ c. search needs)
-    (λ c. search needs)
-    returns
-    mul-result
-    (λ c. search needs)
-    returns-2)
+phc-write-spec = tie.close (tie.spec (λ c κs. search needs) (λ c κs. search needs) code-of-requires (λ c. search needs) returns)
