@@ -1,4 +1,5 @@
--- Account text: its lines, and the number of a line.
+-- 'One account a line: name, tab, string. A line ends at a line feed; a last line without one counts if it has any byte.' Account text: its lines,
+-- and the number of a line.
 -- Assumes nothing.
 use Prim.Native.Nat.{ℕ}
 use mathlib.Core.Bool.{not, cond, _&&_}

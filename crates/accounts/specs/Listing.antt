@@ -1,4 +1,5 @@
--- The text of the listing: a header, and a line for each line of the input. Each ends in a line feed.
+-- 'Kinds are `parameters`, `salt`, `hash`. With no lines the header stands alone.' The text of the listing: a header, and a line for each line of
+-- the input. Each ends in a line feed.
 -- Assumes nothing.
 use Prim.Native.Nat.{ℕ, suc, _-_, _^_}
 use mathlib.Core.Bool.{cond}

@@ -1,4 +1,4 @@
--- B64: RFC 4648 section 4 without padding, as functions on lists. A character stands for six bits, its sextet.
+-- 'B64 is RFC 4648 section 4 without padding or whitespace': as functions on lists. A character stands for six bits, its sextet.
 -- Assumes nothing.
 use Prim.Native.Nat.{ℕ, _+_, _-_, _*_, _/_, _%_, _<_}
 use mathlib.Core.Path.{_≡_}
@@ -49,7 +49,7 @@ lowBitsModulus remainder = cond (eqb remainder 2) 16 (cond (eqb remainder 3) 4 1
 unfoldable pub lowBitsZero : List ℕ → Bool
 lowBitsZero t = eqb (sextet (last t) % lowBitsModulus (length t % 4)) 0
 
--- every byte is of the alphabet, the length modulo 4 is not 1, and the unused low bits of the last character are zero
+-- 01's canonical: every byte is of the alphabet, the length modulo 4 is not 1, and the unused low bits of the last character are zero
 unfoldable pub canonical : List ℕ → Bool
 canonical t = all inAlphabet t && not (eqb (length t % 4) 1) && lowBitsZero t
 

@@ -71,6 +71,7 @@ pub const LETTERS: [u8; 64] = [
     47,
 ];
 
+// The letter of a sextet, from the table.
 pub fn letter_of(table: &[u8; 64], v: u8) -> u8
     requires { ⌜ v < 64 ⌝ }
     requires { ⌜ Letters (now table) ⌝ }

@@ -7,6 +7,7 @@ ghost use lib.ListN.{length};
 ghost use Rattle.text.specs.Text.{all};
 ghost use Rattle.b64.specs.B64.{sextet, Sextets, inAlphabet, lowBitsZero, canonical};
 
+// The sextet of a byte, from the table.
 pub fn sextet_of(table: &[u8; 256], c: u8) -> u8
     requires { ⌜ Sextets (now table) ⌝ }
     ensures { λ r. ⌜ r ≡ sextet c ⌝ }

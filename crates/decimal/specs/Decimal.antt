@@ -1,4 +1,5 @@
--- Decimals: which texts are decimals, the number each says, and the one text of each number.
+-- 'Decimals: `0`, or a digit 1 to 9 and any further digits, or a minus sign before such a number other than 0.' The number that each says, and
+-- the one text of each number.
 -- Assumes nothing.
 use Prim.Native.Nat.{ℕ, zero, suc, _+_, _-_, _*_, _/_, _%_}
 use mathlib.Core.Bool.{Bool, false, not, cond, _&&_}
@@ -11,7 +12,7 @@ use Rattle.text.specs.Text.{within, all, empty}
 unfoldable pub isDigit : ℕ → Bool
 isDigit c = within 48 57 c
 
--- `0`, or a digit 1 to 9 and any further digits
+-- 01's shortest decimal, without a sign: `0`, or a digit 1 to 9 and any further digits
 unfoldable pub isUnsigned : List ℕ → Bool
 isUnsigned [] = false
 isUnsigned (c ∷ s) = cond (eqb c 48) (empty s) (all isDigit (c ∷ s))

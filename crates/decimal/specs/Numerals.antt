@@ -1,4 +1,5 @@
--- What the readers and the writer of decimals give. Inside there are three outcomes, over any range.
+-- 'A public entry reads any text as a signed decimal; anything else gets number 11 and the number 0.' What the readers and the writer of decimals
+-- give: inside there are three outcomes, over any range.
 -- Assumes nothing.
 use Prim.Native.Nat.{ℕ}
 use mathlib.Core.Bool.{Bool, cond, _&&_}

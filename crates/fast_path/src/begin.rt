@@ -5,6 +5,7 @@ ghost use mathlib.Core.List.{_∷_};
 ghost use lib.ListN.{length, drop};
 ghost use Rattle.text.specs.Text.{startsWith};
 
+// Whether a name stands at a place.
 fn same_at(s: &[u8], at: usize, name: &[u8]) -> bool
     requires { ⌜ at ≤ length (now s) ⌝ }
     ensures { λ r. ⌜ r ≡ startsWith (now (name .entry)) (drop at (now (s .entry))) ⌝ }
@@ -22,6 +23,7 @@ fn same_at(s: &[u8], at: usize, name: &[u8]) -> bool
     true
 }
 
+// Whether a separator stands at a place, and a name after it.
 pub fn begins(s: &[u8], at: usize, separator: u8, name: &[u8]) -> bool
     ensures { λ r. ⌜ r ≡ startsWith (separator ∷ now (name .entry)) (drop at (now (s .entry))) ⌝ }
 {

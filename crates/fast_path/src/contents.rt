@@ -2,8 +2,7 @@
 use profile::fields::Reading;
 use text::units::Bytes;
 
-// What a whole string gives: the reader's answer, and how many bytes each of the four byte strings has (`ad` is document 01's data); or the
-// refusal's number and zeros.
+// What a string gives: the reader's answer, and how many bytes each of the four byte strings has; or the refusal's number and zeros.
 pub struct Contents {
     pub reading: Reading,
     pub keyid: Bytes,

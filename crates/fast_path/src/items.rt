@@ -60,6 +60,7 @@ fn omitted_number(rule: NumberRule, at: usize, separator: u8) -> NumberItem
     NumberItem::Is(default_of(rule), at, separator)
 }
 
+// A number after its separator and its name, or left out.
 pub fn number_item(rule: NumberRule, name: &[u8], s: &[u8], at: usize, separator: u8) -> NumberItem
     requires { ⌜ at ≤ length (now s) ⌝ }
     ensures { λ r. ⌜ NumberIs (numberIn rule (now (name .entry)) separator (drop at (now (s .entry)))) (now (s .entry)) r ⌝ }
@@ -98,6 +99,7 @@ fn written_bytes(
     }
 }
 
+// A byte string after its separator and its name, or none.
 pub fn bytes_item(
     table: &[u8; 256],
     rule: BytesRule,

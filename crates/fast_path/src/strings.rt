@@ -25,6 +25,7 @@ fn second_separator(pieces: bool, then: u8) -> u8
     if pieces { b'$' } else { then }
 }
 
+// Two byte strings, each after its separator and its name, or none.
 pub fn two_items(
     table: &[u8; 256],
     a: BytesRule,

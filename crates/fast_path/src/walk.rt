@@ -152,22 +152,22 @@ fn kind_for(salt: usize, output: usize) -> u8
 fn contents_for(
     fields: Fields,
     keyid_end: usize,
-    ad_end: usize,
+    data_end: usize,
     salt_end: usize,
     output_end: usize,
 ) -> Contents
-    requires { ⌜ («keyid_end» ≤ «ad_end») × («ad_end» ≤ «salt_end») × («salt_end» ≤ «output_end») ⌝ }
-    ensures { λ r. ⌜ r ≡ contentsFor fields «keyid_end» («ad_end» - «keyid_end») («salt_end» - «ad_end») («output_end» - «salt_end») ⌝ }
+    requires { ⌜ («keyid_end» ≤ «data_end») × («data_end» ≤ «salt_end») × («salt_end» ≤ «output_end») ⌝ }
+    ensures { λ r. ⌜ r ≡ contentsFor fields «keyid_end» («data_end» - «keyid_end») («salt_end» - «data_end») («output_end» - «salt_end») ⌝ }
 {
     Contents {
         reading: Reading {
             number: 0,
-            kind: kind_for(salt_end - ad_end, output_end - salt_end),
+            kind: kind_for(salt_end - data_end, output_end - salt_end),
             fields,
         },
         keyid: Bytes(keyid_end),
-        data: Bytes(ad_end - keyid_end),
-        salt: Bytes(salt_end - ad_end),
+        data: Bytes(data_end - keyid_end),
+        salt: Bytes(salt_end - data_end),
         output: Bytes(output_end - salt_end),
     }
 }

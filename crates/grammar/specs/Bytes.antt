@@ -1,4 +1,5 @@
--- The separators, and the classes of bytes that the rules name.
+-- 'Id and parameter names: each of the ranges `a`..`z`, `0`..`9`, or the minus sign. A value has bytes of `[a-zA-Z0-9/+.-]`': the classes of bytes
+-- that the rules name, and the separators.
 -- Assumes nothing.
 use Prim.Native.Nat.{ℕ}
 use mathlib.Core.Bool.{Bool, _&&_, _||_}

@@ -1,4 +1,4 @@
--- The items of a parameter piece: parted by commas, each name, `=`, value.
+-- 'Parameters: 1 to 16 items parted by commas, each name, `=`, value.'
 -- Assumes nothing.
 use Prim.Native.Nat.{ℕ}
 use mathlib.Core.List.{List, [], _∷_, _++_, map}

@@ -1,4 +1,5 @@
--- What the grammar reader gives: the places and lengths of the pieces, derived from their texts, and the number of items.
+-- 'The grammar reader gives the places and lengths of the pieces (0 and 0 for an absent one) and the number of items': derived from the texts of
+-- the pieces.
 -- Assumes nothing.
 use Prim.Native.Nat.{ℕ, _+_}
 use mathlib.Core.Bool.{cond}

@@ -1,4 +1,4 @@
--- The grammar's limits, each once.
+-- 'The whole: at most 2,896 bytes, the sum of these': the grammar's limits, each once.
 -- Assumes nothing.
 use Prim.Native.Nat.{ℕ}
 

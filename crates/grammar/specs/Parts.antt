@@ -1,5 +1,5 @@
--- A piece, and the name and the value of an item, as parts of the string: empty where the string is refused, the piece is not there
--- or the index is past the last item.
+-- 'A piece, or the name or value of the item at an index from 0, can also be had as a part of the caller's own string. If the string is refused,
+-- the piece isn't there or the index is past the last item, the part is empty.'
 -- Assumes nothing.
 use Prim.Native.Nat.{ℕ}
 use mathlib.Core.Bool.{Bool, cond}

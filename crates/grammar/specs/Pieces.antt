@@ -14,7 +14,7 @@ use Rattle.grammar.specs.declared.places.Piece.the-variants.{Id, Version
 abbrev pub OptionalText : Type 0
 OptionalText = Option (List ℕ)
 
--- `more` are the pieces past the output
+-- 01's pieces, sorted; the first is its id. `more` are the pieces past the output
 pub record Pieces : Type 0 where
   pub id : List ℕ
   pub version : OptionalText

@@ -1,4 +1,4 @@
--- The rule of each piece, and rows 1 to 7 of the numbers for bad input.
+-- 'Rows 1 to 7 are the grammar's': the rule of each piece, and these rows.
 -- Assumes nothing.
 use Prim.Native.Nat.{ℕ}
 use mathlib.Core.Bool.{Bool, false, not, _&&_, _||_}

@@ -69,6 +69,7 @@ pub fn is_params(params: &[u8]) -> bool
     true
 }
 
+// The number of items: one more than the commas.
 pub fn item_count(params: &[u8]) -> usize
     ensures { λ r. ⌜ r ≡ length (items (now (params .entry))) ⌝ }
 {

@@ -76,6 +76,7 @@ fn take_piece(s: &[u8], at: usize, which: Piece) -> Step
     }
 }
 
+// The places of the pieces, each where it belongs, and whether more remain.
 pub fn sort(s: &[u8]) -> Sorted
     requires { ⌜ beginsWithDollar (now s) ≡ true ⌝ }
     ensures { λ r. ⌜ r ≡ sortedOf (pieces (now (s .entry))) ⌝ }

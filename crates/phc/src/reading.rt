@@ -48,6 +48,7 @@ fn decode_one(s: &[u8], choice: ByteString, buf: &mut [u8]) -> u64
     code_of(r.number, count.0 as u64)
 }
 
+// keyid.
 #[no_mangle]
 pub extern "C" fn phc_keyid(s: &[u8], buf: &mut [u8]) -> u64
     ensures { λ r. ⌜ (r ≡ coded (decoded editionTwo Keyid (now (s .entry)) (now (buf .entry)) 0)) × (now (buf .exit) ≡ decoded editionTwo Keyid (now (s .entry)) (now (buf .entry)) 0 .buffer) ⌝ }
@@ -55,6 +56,7 @@ pub extern "C" fn phc_keyid(s: &[u8], buf: &mut [u8]) -> u64
     decode_one(s, ByteString::Keyid, buf)
 }
 
+// data.
 #[no_mangle]
 pub extern "C" fn phc_data(s: &[u8], buf: &mut [u8]) -> u64
     ensures { λ r. ⌜ (r ≡ coded (decoded editionTwo Data (now (s .entry)) (now (buf .entry)) 0)) × (now (buf .exit) ≡ decoded editionTwo Data (now (s .entry)) (now (buf .entry)) 0 .buffer) ⌝ }
@@ -62,6 +64,7 @@ pub extern "C" fn phc_data(s: &[u8], buf: &mut [u8]) -> u64
     decode_one(s, ByteString::Data, buf)
 }
 
+// The salt.
 #[no_mangle]
 pub extern "C" fn phc_salt(s: &[u8], buf: &mut [u8]) -> u64
     ensures { λ r. ⌜ (r ≡ coded (decoded editionTwo Salt (now (s .entry)) (now (buf .entry)) 0)) × (now (buf .exit) ≡ decoded editionTwo Salt (now (s .entry)) (now (buf .entry)) 0 .buffer) ⌝ }
@@ -69,6 +72,7 @@ pub extern "C" fn phc_salt(s: &[u8], buf: &mut [u8]) -> u64
     decode_one(s, ByteString::Salt, buf)
 }
 
+// The output.
 #[no_mangle]
 pub extern "C" fn phc_output(s: &[u8], buf: &mut [u8]) -> u64
     ensures { λ r. ⌜ (r ≡ coded (decoded editionTwo Output (now (s .entry)) (now (buf .entry)) 0)) × (now (buf .exit) ≡ decoded editionTwo Output (now (s .entry)) (now (buf .entry)) 0 .buffer) ⌝ }

@@ -105,7 +105,7 @@ pub record EntriesAgree (e : List Profile) : Type 0 where
       → reading e (formatted e f) ≡ record { number = 0; kind = kindOf (writeBytes (f .salt)) (writeBytes (f .output)); fields = f .numbers }
   pub carries : (f : FieldSet) → Permitted e f → Carries e (formatted e f) f
 
--- the short writer gives what the writer gives for the profile's usual numbers, no keyid and no data; and where it writes, these are permitted
+-- the short writer gives what the writer gives for its defaults, no keyid and no data; and where it writes, these are permitted
 pub record ShortAgrees (e : List Profile) : Type 0 where
   pub writes : (k : ℕ) (salt output buffer : List ℕ) (at : ℕ) → shortWriting e k salt output buffer at ≡ writing e (shortFields e k salt output) buffer at
   pub permitted : (k : ℕ) (salt output : List ℕ) → shortRefusal e k salt output ≡ 0 → all isByte salt ≡ true → all isByte output ≡ true

@@ -1,4 +1,5 @@
--- What the public entries give, for every input: the outcomes that their contracts name.
+-- 'For every input, good or bad, a public entry's contract determines everything it hands back and each byte of lent memory': the outcomes that
+-- the contracts name.
 -- Assumes nothing.
 use Prim.Native.Nat.{ℕ}
 use mathlib.Core.Bool.{cond}
@@ -27,7 +28,8 @@ noFields = record { id = 0; version = Absent; m = 0; t = 0; p = 0 }
 abbrev pub refusedReading : ℕ → Reading
 refusedReading n = record { number = n; kind = 0; fields = noFields }
 
--- 01's kind: 1 a parameter string, 2 a salt string, 3 a hash string
+-- 01's kind: 1 for its parameter string, 2 for its salt string, 3 for its hash string. Free answer: 3 for an output without a salt, which no
+-- string has
 abbrev pub kindOf : OptionalText → OptionalText → ℕ
 kindOf none none = 1
 kindOf none (some o) = 3

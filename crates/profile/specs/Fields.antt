@@ -1,4 +1,5 @@
--- The nine fields, and how one number, one byte string and the version are read and written.
+-- 'The fields are: id, version, m, t, p, and four byte strings (keyid, data, salt, output).' How one number, one byte string and the version are
+-- read and written.
 -- Assumes nothing.
 use Prim.Native.Nat.{ℕ}
 use mathlib.Core.Bool.{Bool, true, false, cond, _&&_}
@@ -23,7 +24,7 @@ use Rattle.profile.specs.declared.fields.Fields.{Fields}
 use Rattle.profile.specs.declared.fields.ByteString.{ByteString}
 use Rattle.profile.specs.declared.fields.ByteString.the-variants.{Keyid, Data, Salt, Output}
 
--- 01's fields: the number fields (id, version, m, t, p), and the four byte strings beside them; `ad` is its `data`
+-- 01's fields: the number fields (id, version, m, t, p), and the four byte strings beside them
 pub record FieldSet : Type 0 where
   pub numbers : Fields
   pub keyid : List ℕ
@@ -40,7 +41,7 @@ chosen Data f = f .«data»
 chosen Salt f = f .salt
 chosen Output f = f .output
 
--- ---- one number; the slot is its value's text, where there is one
+-- ---- one number, by its value's text, where there is one
 
 abbrev pub numberReading : NumberRule → List ℕ → Limited
 numberReading r t = limitedReading (lowest r) (highest r) t

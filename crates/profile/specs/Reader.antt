@@ -1,4 +1,5 @@
--- The reader's rows 8 to 15, its number, and the fields that a string carries.
+-- 'A string is accepted when none of the reader's rows applies. It carries the fields its pieces say': rows 8 to 15, the reader's number, and the
+-- fields.
 -- Assumes nothing.
 use Prim.Native.Nat.{ℕ}
 use mathlib.Core.Bool.{Bool, not, _||_}
@@ -90,7 +91,7 @@ profileRows e p =
     let is = itemsOf (p .params) in
     rowsFor (profileOf e (idOf e (p .id))) (readVersion (p .version)) (namedValues names is) (not (empty (unmatchedItems names is))) (p .salt) (p .output)
 
--- the reader's number: rows 1 to 7 are the grammar's. A string is accepted (01) where it is 0
+-- the reader's number: rows 1 to 7 are the grammar's. A string is 01's accepted where it is 0
 unfoldable pub answer : List Profile → List ℕ → ℕ
 answer e s = firstOf (grammarRows s ++ profileRows e (pieces s))
 
@@ -119,6 +120,6 @@ carried e p =
     let k = idOf e (p .id) in
     fieldsFor (profileOf e k) k (readVersion (p .version)) (namedValues names (itemsOf (p .params))) (p .salt) (p .output)
 
--- the fields that an accepted string carries: what its pieces say
+-- the fields that an accepted string carries (01's carried): what its pieces say
 unfoldable pub fieldsOf : List Profile → List ℕ → FieldSet
 fieldsOf e s = carried e (pieces s)

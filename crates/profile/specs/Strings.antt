@@ -1,5 +1,5 @@
--- Strings on either side of a rule, with their numbers, and strings that reach the bounds on lengths. Each list stands under one computed
--- statement, `Examples` in specs/Claims.antt.
+-- 'The sixteen below are shown of the rules themselves, as one list under a single statement': strings on either side of a rule, with their
+-- numbers; and strings that reach the bounds on lengths. The statements are `Examples` in specs/Claims.antt.
 -- Assumes nothing.
 use Prim.Native.Nat.{ℕ}
 use Prim.Native.String.{String}

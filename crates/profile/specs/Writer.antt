@@ -1,4 +1,5 @@
--- Permitted fields, the writer's rows, and the one string that fields are written to.
+-- 'Fields are permitted when the id is one of the five, its column allows the others (salt and output may also be empty) and no output stands
+-- without a salt.' The writer's rows, and the one string that fields are written to.
 -- Assumes nothing.
 use Prim.Native.Nat.{ℕ}
 use mathlib.Core.Path.{_≡_}
@@ -41,7 +42,7 @@ pub record Allows (r : Profile) (f : FieldSet) : Type 0 where
   pub output : bytesAllowed (r .output) (f .output) ≡ true
   pub order : (empty (f .salt) && not (empty (f .output))) ≡ false
 
--- permitted fields (01)
+-- 01's permitted fields
 pub record Permitted (e : List Profile) (f : FieldSet) : Type 0 where
   pub column : Allows (profileOf e (f .numbers .id)) f
   pub bytes : OfBytes f
@@ -124,7 +125,7 @@ fieldPieces e f =
 unfoldable pub formatted : List Profile → FieldSet → List ℕ
 formatted e f = string (fieldPieces e f)
 
--- ---- the short writer: no keyid, no data, the profile's usual numbers
+-- ---- the short writer: no keyid, no data, and its defaults for the others
 
 unfoldable pub shortFields : List Profile → ℕ → List ℕ → List ℕ → FieldSet
 shortFields e k salt output =

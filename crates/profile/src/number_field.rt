@@ -31,7 +31,7 @@ pub struct Number {
     pub value: u32,
 }
 
-// Missing where it is needed, or there where it is no parameter. The text doesn't matter.
+// Missing where it is required, or there where it is no parameter. The text doesn't matter.
 pub fn misplaced_number(rule: NumberRule, span: Span) -> bool
     ensures { λ r. ⌜ ((t : List ℕ) → r ≡ misplacedNumber rule (spanText t span)) ⌝ }
 {

@@ -23,6 +23,7 @@ pub struct Values {
     pub unmatched: bool,
 }
 
+// Where a value stands, and where the next item begins.
 pub struct Step {
     pub span: Span,
     pub next: usize,

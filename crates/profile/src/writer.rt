@@ -1,4 +1,4 @@
-// The writer: the one string of permitted fields, into a lent buffer from a place on; and the short writer, which takes the usual costs.
+// The writer: the one string of permitted fields, into a lent buffer from a place on; and the short writer, which takes its defaults.
 use crate::fields::Fields;
 use crate::writer_rows::refusal_of;
 use crate::writer_text::put_string;
@@ -66,7 +66,7 @@ fn short_fields(id: u8) -> Fields
     }
 }
 
-// Writes the string of an id, a salt and an output, with the profile's usual costs and no keyid or data. 8, 14, 15, 16, then 17.
+// Writes the string of an id, a salt and an output, with the short writer's defaults and no keyid or data. 8, 14, 15, 16, then 17.
 pub fn write_short(id: u8, salt: &[u8], output: &[u8], buf: &mut [u8], at: usize) -> Written
     ensures { λ r. ⌜ outcome (r .number) (r .count .0) (now (buf .exit)) ≡ shortWriting editionTwo id (now (salt .entry)) (now (output .entry)) (now (buf .entry)) at ⌝ }
 {

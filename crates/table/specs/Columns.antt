@@ -16,13 +16,13 @@ use Rattle.table.specs.declared.limits.Column.{Column}
 
 -- ---- names
 
--- a slot of nine bytes: a name's length, its bytes, and zeros after a short one
-abbrev nameSlot : List ℕ → List ℕ
-nameSlot name = length name ∷ (name ++ replicate (8 - length name) 0)
+-- nine bytes: a name's length, its bytes, and zeros after a short one
+abbrev paddedName : List ℕ → List ℕ
+paddedName name = length name ∷ (name ++ replicate (8 - length name) 0)
 
 -- the bytes of the constant NAMES: the names in the order of their ids' numbers, an empty one before them
 abbrev pub nameTable : List ℕ
-nameTable = concat (map (λ (r : Profile). nameSlot (r .name)) (noProfile ∷ editionTwo))
+nameTable = concat (map (λ (r : Profile). paddedName (r .name)) (noProfile ∷ editionTwo))
 
 -- the name at an index of such a table; empty past the last
 unfoldable pub nameIn : List ℕ → ℕ → List ℕ

@@ -1,4 +1,5 @@
--- What a profile allows, as a table: one entry for each id, in the order of the ids' numbers. An edition of the rules is such a table.
+-- 'A reader and a writer for five profiles: `argon2d`, `argon2i`, `argon2id`, `pbkdf2s2`, `pbkdf2s3`': the table of what each allows, a column
+-- for each id, in the order of the ids' numbers. An edition of the rules is such a table.
 -- Assumes nothing.
 use Prim.Native.Nat.{ℕ, zero, suc, _*_}
 use mathlib.Core.Bool.{Bool, true, false, cond, _&&_}
@@ -16,9 +17,8 @@ use Rattle.table.specs.declared.limits.ShortDefaults.{ShortDefaults}
 use Rattle.table.specs.declared.version.Version.{Version}
 use Rattle.table.specs.declared.version.Version.the-variants.{Absent, Number}
 
--- 01's profile, a column of its table. `ad` is its `data`, a reserved word here. Ids keep their numbers in every edition, so an entry says
--- whether its id is known. `versions` are those that may be written; in every profile a version may also be absent. `implied` is the
--- algorithm version that a string without a version means
+-- 01's profile, a column of its table. Ids keep their numbers in every edition, so a column says whether its id is known. `versions` are those
+-- that may be written; in every profile a version may also be absent. `implied` is the algorithm version that a string without a version means
 pub record Profile : Type 0 where
   pub known : Bool
   pub name : List ℕ
@@ -33,8 +33,9 @@ pub record Profile : Type 0 where
   pub output : BytesRule
   pub defaults : ShortDefaults
 
--- ---- what an entry says of a number
+-- ---- what a column says of a number
 
+-- the ends of its range; both are the number itself where it is constant
 abbrev pub lowest : NumberRule → ℕ
 lowest (Required low high) = low
 lowest (Defaulted low high default) = low
@@ -45,10 +46,12 @@ highest (Required low high) = high
 highest (Defaulted low high default) = high
 highest (Constant value) = value
 
+-- in the range of its own rule. Of m this says nothing of the lanes: 1 to 7, which no p of 1 or more permits, are in its range, and m < 8p is a
+-- row of its own
 abbrev pub inRange : NumberRule → ℕ → Bool
 inRange r n = within (lowest r) (highest r) n
 
--- a number is missing where it is needed, or there where it is no parameter; the slot is its text, where there is one
+-- a number is missing where it is required, or there where it is no parameter: by its text, where there is one
 abbrev pub misplacedNumber : NumberRule → OptionalText → Bool
 misplacedNumber (Required low high) none = true
 misplacedNumber (Required low high) (some t) = false
@@ -56,13 +59,13 @@ misplacedNumber (Defaulted low high default) s = false
 misplacedNumber (Constant value) none = false
 misplacedNumber (Constant value) (some t) = true
 
--- what stands for one that is left out. Free answer: 0 for one that is needed
+-- what stands for one that is left out. Free answer: 0 for one that is required
 abbrev pub defaultOf : NumberRule → ℕ
 defaultOf (Required low high) = 0
 defaultOf (Defaulted low high n) = n
 defaultOf (Constant n) = n
 
--- left out of the string: what an omitted one means, or no parameter
+-- left out of the string: its default, or no parameter
 abbrev pub isOmitted : NumberRule → ℕ → Bool
 isOmitted (Required low high) n = false
 isOmitted (Defaulted low high default) n = eqb n default
@@ -74,11 +77,12 @@ fewKilobytes m p = ltb m (8 * p)
 
 -- ---- of a byte string's size, and of a version
 
+-- asked of a byte string that is there. Free answer: one that is forbidden has no permitted size, not even 0
 abbrev pub isSize : BytesRule → ℕ → Bool
 isSize (Sized low high) n = within (low .0) (high .0) n
 isSize Forbidden n = false
 
--- absent, or one of those listed
+-- absent, or one of those listed. Free answer: with none listed, as for the number of no id, absent is allowed too; row 8 comes before
 abbrev pub versionAllowed : List ℕ → Version → Bool
 versionAllowed vs Absent = true
 versionAllowed vs (Number n) = has n vs
@@ -94,12 +98,12 @@ next (suc n) = suc (suc n)
 abbrev pub isNamed : List ℕ → Profile → Bool
 isNamed s r = r .known && same s (r .name)
 
--- the number of an id text, counted from 1; 0 for an unknown one
+-- the number of 01's id, counted from 1; 0 for a text that is none of the table's
 abbrev pub idOf : List Profile → List ℕ → ℕ
 idOf [] s = 0
 idOf (r ∷ rs) s = cond (isNamed s r) 1 (next (idOf rs s))
 
--- the entry of a number that is no id's
+-- the column of a number that is no id's
 abbrev pub noProfile : Profile
 noProfile =
     record {
@@ -144,7 +148,7 @@ defaultT = 20000
 abbrev pub pbkdf2Defaults : ShortDefaults
 pbkdf2Defaults = record { version = Absent; m = 0; t = defaultT; p = 0 }
 
--- m by itself is at least 1; that it is at least 8p is a row of its own, after the three numbers
+-- m by itself begins at 1; that it is at least 8p is a row of its own, after the three numbers
 abbrev pub argon2 : List ℕ → Profile
 argon2 name =
     record {
@@ -189,6 +193,7 @@ editionTwo =
     ∷ pbkdf2 (text "pbkdf2s3")
     ∷ []
 
--- the bytes that every permitted string of edition two fits (`Lengths`, a claim of the profile's)
+-- 01's room, the bytes from a place to the buffer's end: so many are enough for every permitted string of edition two (`Lengths`, a claim of
+-- the profile's)
 abbrev pub room : ℕ
 room = 265

@@ -5,7 +5,7 @@ use text::units::Bytes;
 // The bytes that every permitted string fits.
 pub const ROOM: usize = 265;
 
-// A number. Needed: always written. Omitted: left out where it is `given`. Fixed: no parameter of this id, its number is `given`.
+// A number. Required: always written. Defaulted: left out where it is `default`. Constant: no parameter of this id, its number is `value`.
 pub enum NumberRule {
     Required { low: u32, high: u32 },
     Defaulted { low: u32, high: u32, default: u32 },
@@ -33,7 +33,7 @@ pub struct ShortDefaults {
 }
 
 // A column of document 01's table. `name` is an index into the names (src/names.rt), `implied` the algorithm version that a string
-// without a version means, `ad` the associated data, 01's `data`.
+// without a version means.
 pub struct Column {
     pub known: bool,
     pub name: usize,

@@ -8,9 +8,10 @@ ghost use Rattle.table.specs.Columns.{nameIn};
 // Names stand at the indexes 1 to 5; the one at 0 is empty.
 pub const NAME_COUNT: usize = 6;
 
-// A slot holds a name's length, its bytes, and zeros after a short one.
-const SLOT: usize = 9;
+// A name takes nine bytes: its length, its bytes, and zeros after a short one.
+const STRIDE: usize = 9;
 
+// The names, one after the other.
 pub const NAMES: [u8; 54] =
     *b"\0\0\0\0\0\0\0\0\0\x07argon2d\0\x07argon2i\0\x08argon2id\x08pbkdf2s2\x08pbkdf2s3";
 
@@ -27,7 +28,7 @@ pub fn name_at(names: &[u8], index: usize) -> &[u8]
     if NAME_COUNT <= index {
         return &names[0..0];
     }
-    let at = index * SLOT;
+    let at = index * STRIDE;
     if names.len() <= at {
         return &names[0..0];
     }

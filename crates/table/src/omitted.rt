@@ -19,7 +19,7 @@ pub fn is_required(rule: NumberRule) -> bool
     }
 }
 
-// The number that stands for one that is left out.
+// The number that stands for one that is left out; 0 for one that is required.
 pub fn default_of(rule: NumberRule) -> u32
     ensures { λ r. ⌜ r ≡ defaultOf rule ⌝ }
 {
@@ -34,7 +34,7 @@ pub fn default_of(rule: NumberRule) -> u32
     }
 }
 
-// Left out of the string: what an omitted one means, or no parameter.
+// Whether a number is left out of the string: its default, or no parameter.
 pub fn is_omitted(rule: NumberRule, n: u32) -> bool
     ensures { λ r. ⌜ r ≡ isOmitted rule n ⌝ }
 {

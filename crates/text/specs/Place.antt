@@ -1,4 +1,5 @@
--- Writing into a lent buffer from a place in its middle onward: the one definition for every writer.
+-- 'Into a lent buffer, from a place in its middle onward. Bytes before the place and after the written ones stay.' The one definition for every
+-- writer. 01's place is an index into a buffer or a string; its room is what is left of the buffer from there.
 -- Assumes nothing.
 use Prim.Native.Nat.{ℕ, _+_}
 use mathlib.Core.Path.{_≡_}

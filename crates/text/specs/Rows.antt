@@ -1,4 +1,4 @@
--- Rows of a table of refusals: each a number and a condition, in the order in which they are tried.
+-- 'The first row that applies is the number; no row is given otherwise. 0 is acceptance.' A row is a number and a condition.
 -- Assumes nothing.
 use Prim.Native.Nat.{ℕ}
 use mathlib.Core.Bool.{Bool, cond}
