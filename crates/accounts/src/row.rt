@@ -32,29 +32,30 @@ fn write_kind(kind: u8, buf: &mut [u8], at: usize) -> Written
     }
 }
 
-fn kind_len(kind: u8) -> usize
-    ensures { λ r. ⌜ r ≡ length (kindLine kind) ⌝ }
+fn kind_len(kind: u8) -> Chars
+    ensures { λ r. ⌜ r .0 ≡ length (kindLine kind) ⌝ }
 {
     match kind {
-        1 => 11,
-        2 => 5,
-        3 => 5,
-        _ => 2,
+        1 => Chars(11),
+        2 => Chars(5),
+        3 => Chars(5),
+        _ => Chars(2),
     }
 }
 
-fn row_len(line: u64, answer: Answer) -> usize
-    ensures { λ r. ⌜ r ≡ length (rowText line answer) ⌝ }
+fn row_len(line: u64, answer: Answer) -> Chars
+    ensures { λ r. ⌜ r .0 ≡ length (rowText line answer) ⌝ }
 {
-    let a = unsigned_len(line);
-    let b = unsigned_len(answer.number as u64);
-    a.0 + b.0 + 2 + kind_len(answer.kind)
+    unsigned_len(line)
+        .plus(unsigned_len(answer.number as u64))
+        .plus(Chars(2))
+        .plus(kind_len(answer.kind))
 }
 
 // Puts the row at the start of a buffer that has room for it.
-fn put_row(line: u64, answer: Answer, out: &mut [u8]) -> usize
+fn put_row(line: u64, answer: Answer, out: &mut [u8]) -> Chars
     requires { ⌜ length (rowText line answer) ≤ length (now out) ⌝ }
-    ensures { λ r. ⌜ Wrote (rowText line answer) (now (out .entry)) (now (out .exit)) r ⌝ }
+    ensures { λ r. ⌜ Wrote (rowText line answer) (now (out .entry)) (now (out .exit)) (r .0) ⌝ }
 {
     let a = write_unsigned(line, out, 0);
     let after_line = a.count.0;
@@ -65,7 +66,7 @@ fn put_row(line: u64, answer: Answer, out: &mut [u8]) -> usize
     let d = write_text(b"\t", out, after_answer);
     let before_kind = after_answer + d.count.0;
     let e = write_kind(answer.kind, out, before_kind);
-    before_kind + e.count.0
+    Chars(before_kind + e.count.0)
 }
 
 // A row of the listing, into `buf` from `at` on. 17: it doesn't fit.
@@ -73,15 +74,12 @@ pub fn write_row(line: u64, answer: Answer, buf: &mut [u8], at: usize) -> Writte
     ensures { λ r. ⌜ outcome (r .number) (r .count .0) (now (buf .exit)) ≡ put (now (buf .entry)) at (rowText line answer) ⌝ }
 {
     let count = row_len(line, answer);
-    if !has_room(buf.len(), at, count) {
+    if !has_room(buf.len(), at, count.0) {
         return Written {
             number: NO_ROOM,
             count: Chars(0),
         };
     }
     put_row(line, answer, &mut buf[at..]);
-    Written {
-        number: 0,
-        count: Chars(count),
-    }
+    Written { number: 0, count }
 }

@@ -19,7 +19,7 @@ use Rattle.profile.specs.PieceTexts.{tagged, piecesText}
 use Rattle.profile.specs.declared.fields.Fields.{Fields}
 use Rattle.profile.proofs.Texts.{formatted-is}
 use Rattle.profile.proofs.Allows.{here}
-use Rattle.profile.proofs.SoundLaws.{Entry, entry-at, name-of}
+use Rattle.profile.proofs.SoundLaws.{SoundColumn, sound-column-at, name-of}
 use Rattle.fast_path.specs.Walk.{Taken, versionIn, numbersIn, Pair, pairIn, keysIn, hashesIn, headIn, afterId, walked}
 use Rattle.fast_path.proofs.ItemTexts.{items, Stands, stands-append, costItems, keyItems, fiveItems, hashesText, restText, pieces-row}
 use Rattle.fast_path.proofs.Stands.{number-then, bytes-then, VersionStands, version-stands}
@@ -108,14 +108,14 @@ hashes-stand r s =
 
 -- ---- the whole
 
--- the version and the numbers, of the entry r
+-- the version and the numbers, of the column r
 record HeadStands (r : Profile) (k : ℕ) (s : List ℕ) (x : Taken Fields) : Type 0 where
   version : versionAllowed (r .versions) (x .found .version) ≡ true
   middle : List ℕ
   here : s ≡ tagged (text "$") (writeVersion (x .found .version)) ++ middle
   numbers : NumbersStand r k (x .found .version) middle x
 
-head-stands : (e : List Profile) (r : Profile) (k : ℕ) (s : List ℕ) → Entry e k r → Holds (HeadStands r k s) (headIn r k s)
+head-stands : (e : List Profile) (r : Profile) (k : ℕ) (s : List ℕ) → SoundColumn e k r → Holds (HeadStands r k s) (headIn r k s)
 unfolding headIn
 head-stands e r k s E =
     holds-then (VersionStands (r .versions) s) (HeadStands r k s) (versionIn (r .versions) s) _ (version-stands (r .versions) s) (λ v hv.
@@ -133,7 +133,7 @@ head-stands e r k s E =
 abbrev Found : List Profile → List ℕ → FieldSet → Type 0
 Found e s f = Permitted e f × (formatted e f ≡ s)
 
--- from the entry of their id
+-- from the column of their id
 found : (e : List Profile) (s : List ℕ) (f : FieldSet) (r : Profile) → here e f ≡ r → Allows r f → OfBytes f → piecesText r f ≡ s → Found e s f
 found e s f r q k b t =
     (record { column = subst (λ (r : Profile). Allows r f) (sym q) k; bytes = b }, formatted-is e f ∙ ap (λ (r : Profile). piecesText r f) q ∙ t)
@@ -145,7 +145,7 @@ module _ (e : List Profile) (ok : sound e ≡ true) where
       let k = idOf e name in
       let r = profileOf e k in
       holds-if (Found e s) (r .known) _ _ (λ known.
-      holds-then (HeadStands r k u) (Found e s) (headIn r k u) _ (head-stands e r k u (entry-at e ok k known)) (λ n hn.
+      holds-then (HeadStands r k u) (Found e s) (headIn r k u) _ (head-stands e r k u (sound-column-at e ok k known)) (λ n hn.
       holds-then (KeysStand r (n .separator) (n .rest)) (Found e s) (keysIn r (n .separator) (n .rest)) _ (keys-stand r (n .separator) (n .rest)) (λ y hy.
       holds-then (HashesStand r (y .rest)) (Found e s) (hashesIn r (y .rest)) _ (hashes-stand r (y .rest)) (λ h hh.
       holds-if (Found e s) (empty (h .rest)) _ _ (λ z.

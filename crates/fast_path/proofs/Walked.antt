@@ -23,7 +23,7 @@ use Rattle.profile.specs.Writer.{Permitted, formatted}
 use Rattle.profile.specs.PieceTexts.{tagged}
 use Rattle.profile.proofs.Texts.{formatted-is}
 use Rattle.profile.proofs.Allows.{here}
-use Rattle.profile.proofs.SoundLaws.{Entry, entry-at}
+use Rattle.profile.proofs.SoundLaws.{SoundColumn, sound-column-at}
 use Rattle.profile.proofs.Written.{written}
 use Rattle.profile.proofs.Accepted.{accepted}
 use Rattle.fast_path.specs.Walk.{taken, versionIn, numbersIn, pairIn, keysIn, hashesIn, headIn, afterId, walked, WalkAgrees}
@@ -51,8 +51,8 @@ no-dollar [] [] h e = refl
 no-dollar [] (b ∷ output) h e = absurd (true≢false h)
 no-dollar (b ∷ salt) output h e = absurd (false≢true e)
 
--- the string of permitted fields, whose entry passes the test
-module _ (e : List Profile) (f : FieldSet) (E : Entry e (f .numbers .id) (here e f)) (P : Permitted e f) where
+-- the string of permitted fields, whose column passes the test
+module _ (e : List Profile) (f : FieldSet) (E : SoundColumn e (f .numbers .id) (here e f)) (P : Permitted e f) where
   abbrev keys : List Named
   keys = keyItems (f .keyid) (f .«data»)
 
@@ -154,7 +154,7 @@ module _ (e : List Profile) (ok : sound e ≡ true) where
   walk-written : (f : FieldSet) → Permitted e f → walked e (formatted e f) ≡ some f
   walk-written f P =
       let r = here e f in
-      ap (walked e) (formatted-is e f ∙ pieces-row r f) ∙ string-read e f (entry-at e ok (f .numbers .id) (P .column .id)) P
+      ap (walked e) (formatted-is e f ∙ pieces-row r f) ∙ string-read e f (sound-column-at e ok (f .numbers .id) (P .column .id)) P
 
   pub walk-complete : (s : List ℕ) → answer e s ≡ 0 → walked e s ≡ some (fieldsOf e s)
   walk-complete s z =

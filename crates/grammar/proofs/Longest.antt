@@ -102,8 +102,8 @@ unfolding isOutput
 output-short none e = tt
 output-short (some s) e = from-within 1 128 (length s) (both (within 1 128 (length s)) (canonical s) (is-true (isOutput s) e) .0) .1
 
-whole-length : (p : Pieces) → Clear (pieceRows p) → length (string p) ≤ longestString
-whole-length p (a, (b, (c, (d, (e, (f, g)))))) =
+string-length : (p : Pieces) → Clear (pieceRows p) → length (string p) ≤ longestString
+string-length p (a, (b, (c, (d, (e, (f, g)))))) =
     let n = text-length _ 32 (p .id) (is-true (isName (p .id)) a) in
     let l₄ = p .more in
     let l₃ = listOf (p .output) ++ l₄ in
@@ -118,7 +118,7 @@ whole-length p (a, (b, (c, (d, (e, (f, g)))))) =
     omega arith
 
 pub at-most : (p : Pieces) → firstOf (pieceRows p) ≡ 0 → length (string p) ≤ longestString
-at-most p e = whole-length p (clear (pieceRows p) refl e)
+at-most p e = string-length p (clear (pieceRows p) refl e)
 
 -- ---- no rule allows the empty text
 

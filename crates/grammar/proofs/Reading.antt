@@ -28,9 +28,9 @@ use Rattle.grammar.proofs.ItemLaws.{item-at}
 
 -- ---- the number
 
-pub bad-string-starts : (s : List ℕ) → badString s ≡ false → beginsWithDollar s ≡ true
+pub bad-string-begins : (s : List ℕ) → badString s ≡ false → beginsWithDollar s ≡ true
 unfolding badString
-bad-string-starts s b = is-true (beginsWithDollar s) (neither (empty s || not (leb (length s) longestString)) (not (beginsWithDollar s)) b .1)
+bad-string-begins s b = is-true (beginsWithDollar s) (neither (empty s || not (leb (length s) longestString)) (not (beginsWithDollar s)) b .1)
 
 pub bad-string-none : (s : List ℕ) → length s < 1 → badString s ≡ true
 unfolding badString
@@ -46,9 +46,9 @@ unfolding badString
 bad-string-first [] k h = absurd (omega arith)
 bad-string-first (c ∷ s) k h = rw (le-leb (suc (length s)) longestString h)
 
-pub number-whole : (s : List ℕ) → badString s ≡ true → grammarNumber s ≡ 1
+pub number-bad-string : (s : List ℕ) → badString s ≡ true → grammarNumber s ≡ 1
 unfolding grammarNumber
-number-whole s b = rw b
+number-bad-string s b = rw b
 
 pub number-pieces : (s : List ℕ) → badString s ≡ false → grammarNumber s ≡ firstOf (pieceRows (pieces s))
 unfolding grammarNumber
@@ -60,7 +60,7 @@ unfolding grammarNumber
 accepted-rows s e = clear (grammarRows s) refl e
 
 pub accepted-starts : (s : List ℕ) → grammarNumber s ≡ 0 → beginsWithDollar s ≡ true
-accepted-starts s e = bad-string-starts s (accepted-rows s e .0)
+accepted-starts s e = bad-string-begins s (accepted-rows s e .0)
 
 -- ---- the layout
 

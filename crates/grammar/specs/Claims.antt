@@ -41,7 +41,7 @@ longest =
     (text "v=4294967295"
     ∷ join comma longItem (replicate (mostItems - 1) longItem)
     ∷ replicate longestValue 99
-    ∷ replicate longestOutput 65
+    ∷ replicate (longestOutput .0) 65
     ∷ [])
 
 pub record PieceClaims : Type 0 where
@@ -62,7 +62,7 @@ pub record PieceClaims : Type 0 where
   pub at-most : (p : Pieces) → firstOf (pieceRows p) ≡ 0 → length (string p) ≤ longestString
   -- which is the sum of the pieces' limits, each with its `$`; the version has `v=` and 10 digits, the items 15 commas
   pub sum : (1 + longestName) + (1 + (2 + 10)) + (1 + (mostItems * (longestName + 1 + longestValue) + (mostItems - 1)))
-      + (1 + longestValue) + (1 + longestOutput) ≡ longestString
+      + (1 + longestValue) + (1 + longestOutput .0) ≡ longestString
   -- and is reached
   pub longest-length : length longest ≡ longestString
   pub longest-accepted : grammarNumber longest ≡ 0

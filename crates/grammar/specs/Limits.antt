@@ -1,6 +1,7 @@
 -- 'The whole: at most 2,896 bytes, the sum of these': the grammar's limits, each once.
 -- Assumes nothing.
 use Prim.Native.Nat.{ℕ}
+use Rattle.text.specs.declared.units.Chars.{Chars}
 
 -- bytes of an id and of a parameter's name
 abbrev pub longestName : ℕ
@@ -11,8 +12,8 @@ abbrev pub longestValue : ℕ
 longestValue = 128
 
 -- characters of an output
-abbrev pub longestOutput : ℕ
-longestOutput = 128
+abbrev pub longestOutput : Chars
+longestOutput = record { 0 = 128 }
 
 abbrev pub mostItems : ℕ
 mostItems = 16

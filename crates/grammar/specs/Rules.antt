@@ -44,7 +44,7 @@ isParams s = leb (length (items s)) mostItems && all isItem (items s)
 
 -- 1 to 128 characters, a canonical B64 text
 unfoldable pub isOutput : List ℕ → Bool
-isOutput s = within 1 longestOutput (length s) && canonical s
+isOutput s = within 1 (longestOutput .0) (length s) && canonical s
 
 abbrev pub ruleOf : Piece → List ℕ → Bool
 ruleOf Id s = isName s

@@ -1,4 +1,5 @@
 // The grammar's limits (specs/Limits.antt).
+use text::units::Chars;
 
 // Bytes of an id and of a parameter's name.
 pub const LONGEST_NAME: usize = 32;
@@ -6,8 +7,8 @@ pub const LONGEST_NAME: usize = 32;
 // Bytes of a value and of a salt.
 pub const LONGEST_VALUE: usize = 128;
 
-// The length of an output.
-pub const LONGEST_OUTPUT: usize = 128;
+// Characters of an output.
+pub const LONGEST_OUTPUT: Chars = Chars(128);
 
 // Items of a parameter piece.
 pub const MOST_ITEMS: usize = 16;

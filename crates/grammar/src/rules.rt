@@ -60,7 +60,7 @@ fn is_output(text: &[u8]) -> bool
     if text.len() < 1 {
         return false;
     }
-    if LONGEST_OUTPUT < text.len() {
+    if LONGEST_OUTPUT.0 < text.len() {
         return false;
     }
     is_canonical(text)

@@ -1,7 +1,7 @@
 -- One answer for what was found or a number.
 -- Assumes nothing.
 use Prim.Native.Nat.{ℕ, zero, suc, _*_, _≤_}
-use mathlib.Core.Bool.{Bool, true, false, not, cond, _&&_, and-false}
+use mathlib.Core.Bool.{Bool, true, false, not, cond, and-false}
 use mathlib.Core.List.{List}
 use mathlib.Core.Path.{_≡_, refl, ap}
 use native.Mathlib.Omega.{arith}
@@ -18,22 +18,25 @@ module _ (n c : ℕ) (left : List ℕ) (o : Outcome) (e : outcome n c left ≡ o
   pub coded-is : codeOf n c ≡ coded o
   coded-is = ap coded e
 
--- a hundred times what was found is none of 1 to 99
+-- a hundred times what was found is none of 1 to 99; a number up to 99 that is not 0 is
 found-tells : (found : ℕ) → isRefusal (100 * found) ≡ false
 found-tells zero = refl
 found-tells (suc k) = let h = lt-leb (100 * suc k) 99 (omega arith) in rw h (and-false (leb 1 (100 * suc k)))
 
--- so the answer says whether it is a refusal
+refused-tells : (number : ℕ) → number ≤ 99 → (number ≡ 0 → ⊥) → isRefusal number ≡ true
+refused-tells number h z = to-within 1 99 number (omega (arith, z)) h
+
+-- so an answer says whether it is a refusal
 pub code-tells : (number found : ℕ) → number ≤ 99 → isRefusal (codeOf number found) ≡ not (eqb number 0)
 code-tells number found h = go (eqb number 0) refl
   where
     go : (b : Bool) → eqb number 0 ≡ b → isRefusal (cond b (100 * found) number) ≡ not b
     go true e = found-tells found
-    go false e = let z = eqb-false number 0 e in to-within 1 99 number (omega (arith, z)) h
+    go false e = refused-tells number h (eqb-false number 0 e)
 
 pub number-tells : (number : ℕ) → number ≤ 99 → isRefusal number ≡ not (eqb number 0)
 number-tells number h = go (eqb number 0) refl
   where
     go : (b : Bool) → eqb number 0 ≡ b → isRefusal number ≡ not b
     go true e = rw (eqb-true number 0 e)
-    go false e = let z = eqb-false number 0 e in to-within 1 99 number (omega (arith, z)) h
+    go false e = refused-tells number h (eqb-false number 0 e)

@@ -1,7 +1,7 @@
 -- Every refusal of an exported function is 1 to 99, no other answer is, and the writers never give 0.
 -- Assumes nothing.
 use Prim.Native.Nat.{ℕ, _*_, _≤_}
-use mathlib.Core.Bool.{Bool, true, false, not, cond, _||_}
+use mathlib.Core.Bool.{Bool, true, false, cond, _||_}
 use mathlib.Core.List.{List, _++_}
 use mathlib.Core.Path.{_≡_, refl, sym, ap, _∙_}
 use native.Mathlib.Omega.{arith}
@@ -9,7 +9,7 @@ use lib.Dec.{leb, eqb}
 use lib.ListN.{length}
 use borrow.Author.Tests.{eqb-true, eqb-false, leb-true, le-leb}
 use Rattle.text.specs.Text.{within, all, has}
-use Rattle.text.specs.Place.{Outcome, putAfter, Refuses}
+use Rattle.text.specs.Place.{Outcome, putAfter}
 use Rattle.text.proofs.Tests.{from-within}
 use Rattle.text.proofs.Lists.{all-has}
 use Rattle.text.proofs.Writing.{after-zero, after-done, after-refuses}

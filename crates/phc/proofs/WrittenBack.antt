@@ -2,7 +2,7 @@
 -- Assumes nothing.
 use Prim.Native.Nat.{ℕ, _+_, _*_, _/_, _%_, _≤_}
 use mathlib.Core.Bool.{Bool, true, _&&_}
-use mathlib.Core.List.{List, [], _∷_, _++_, append-assoc}
+use mathlib.Core.List.{List, _∷_, _++_, append-assoc}
 use mathlib.Core.Path.{_≡_, refl, sym, ap, subst, _∙_}
 use native.Mathlib.Omega.{arith}
 use lib.Dec.{leb}
@@ -16,12 +16,12 @@ use Rattle.text.proofs.Lists.{all-has}
 use Rattle.text.proofs.Table.{always}
 use Rattle.text.proofs.Over.{over-start}
 use Rattle.text.proofs.Writing.{after-zero, after-done}
-use Rattle.table.specs.Limits.{Profile, noProfile, profileOf, editionTwo, largest32, lowest, highest, inRange, versionAllowed, room}
+use Rattle.table.specs.Limits.{Profile, noProfile, profileOf, editionTwo, largest32, lowest, highest, versionAllowed, room}
 use Rattle.table.specs.declared.version.Version.{Version}
 use Rattle.table.specs.declared.version.Version.the-variants.{Absent, Number}
 use Rattle.profile.specs.Fields.{FieldSet, fieldSet}
 use Rattle.profile.specs.Reader.{answer, fieldsOf}
-use Rattle.profile.specs.Writer.{Allows, Permitted, formatted}
+use Rattle.profile.specs.Writer.{Permitted, formatted}
 use Rattle.profile.specs.Entries.{reading, writing}
 use Rattle.profile.specs.declared.fields.Fields.{Fields}
 use Rattle.profile.specs.declared.fields.Reading.{Reading}

@@ -21,7 +21,7 @@ use Rattle.grammar.specs.Rules.{isValue, isItem, isParams, isOutput, pieceRows,
 use Rattle.grammar.specs.declared.places.Piece.the-variants.{Version, Params, Salt, Output}
 use Rattle.grammar.proofs.ItemLaws.{item-value, params-items}
 use Rattle.grammar.proofs.PieceLaws.{string-pieces}
-use Rattle.grammar.proofs.Reading.{bad-string-starts}
+use Rattle.grammar.proofs.Reading.{bad-string-begins}
 use Rattle.table.specs.Limits.{Profile, idOf, profileOf, versionAllowed}
 use Rattle.table.specs.declared.limits.BytesRule.{BytesRule}
 use Rattle.profile.specs.Fields.{isSized, isBytes, readBytes, writeBytes, readVersion}
@@ -30,7 +30,7 @@ use Rattle.profile.specs.Writer.{Permitted, itemList, fieldValues, field
 use Rattle.profile.specs.Sound.{sound}
 use Rattle.profile.proofs.Codecs.{number-back, bytes-back, value-filled, output-filled, version-back}
 use Rattle.profile.proofs.NamedValues.{list-values}
-use Rattle.profile.proofs.SoundLaws.{entry-at, name-of}
+use Rattle.profile.proofs.SoundLaws.{sound-column-at, name-of}
 use Rattle.profile.proofs.Written.{Goods, After}
 
 -- ---- what the sorting tells
@@ -78,7 +78,7 @@ output-bytes : (r : BytesRule) (s : OptionalText) → violates isOutput s ≡ fa
 unfolding isOutput
 output-bytes r none o e = refl
 output-bytes r (some t) o e =
-    let q = both (within 1 longestOutput (length t)) (canonical t) (is-true (isOutput t) o) in
+    let q = both (within 1 (longestOutput .0) (length t)) (canonical t) (is-true (isOutput t) o) in
     not-of-true (and-true (q .1) (is-true (isSized r t) e))
 
 -- no output without a salt: a salt that is there has a byte
@@ -103,7 +103,7 @@ module _ (e : List Profile) (ok : sound e ≡ true) where
       let k = idOf e (p .id) in
       let r = profileOf e k in
       let known = is-true (r .known) r8 in
-      let E = entry-at e ok k known in
+      let E = sound-column-at e ok k known in
       let P = params-all (p .params) g4 in
       let G = values-good names is (P .0) in
       let s10 = neither (not (empty (unmatchedItems names is))) (misplaced r vs) r10 in
@@ -149,4 +149,4 @@ module _ (e : List Profile) (ok : sound e ≡ true) where
       let p = pieces s in
       let (g1, (g2, (g3, (g4, (g5, (g6, (g7, r))))))) = clear (grammarRows s ++ profileRows e p) refl z in
       let b = back p (version-begins s) (salt-first s) (g2, (g3, (g4, (g5, (g6, (g7, tt)))))) r in
-      (b .0, ap string (b .1) ∙ string-pieces s (bad-string-starts s g1))
+      (b .0, ap string (b .1) ∙ string-pieces s (bad-string-begins s g1))

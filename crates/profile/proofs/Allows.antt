@@ -8,7 +8,7 @@ use Rattle.table.specs.Limits.{Profile, inRange, versionAllowed, profileOf}
 use Rattle.profile.specs.Fields.{FieldSet}
 use Rattle.profile.specs.Writer.{bytesAllowed, Allows, writerRows, refusal}
 
--- the entry of the fields' id
+-- the column of the fields' id
 abbrev pub here : List Profile → FieldSet → Profile
 here e f = profileOf e (f .numbers .id)
 

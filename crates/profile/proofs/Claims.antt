@@ -8,7 +8,7 @@ use native.Mathlib.Omega.{arith}
 use lib.Dec.{leb}
 use lib.ListN.{length, replicate, length-append}
 use borrow.Author.Tests.{leb-true, le-leb, lt-leb, ltb-false}
-use Rattle.text.specs.Place.{Outcome, outcome, over}
+use Rattle.text.specs.Place.{Outcome}
 use Rattle.text.specs.Text.{every}
 use Rattle.text.proofs.Tests.{from-within, implied}
 use Rattle.text.proofs.Writing.{after-zero, after-done, over-same}
@@ -16,7 +16,7 @@ use Rattle.grammar.specs.Pieces.{Pieces, pieces}
 use Rattle.table.specs.Limits.{Profile, lowest, highest, profileOf, editionTwo, room}
 use Rattle.profile.specs.Fields.{FieldSet, chosen, writeBytes}
 use Rattle.profile.specs.Reader.{answer, fieldsOf}
-use Rattle.profile.specs.Writer.{OfBytes, Permitted, refusal, fieldPieces, formatted}
+use Rattle.profile.specs.Writer.{Permitted, refusal, fieldPieces, formatted}
 use Rattle.profile.specs.Entries.{kindOf, reading, decoded, writing}
 use Rattle.profile.specs.Spelling.{Demand3}
 use Rattle.profile.specs.Claims.{ruleSpelling, WrittenAt, WrittenTo, Carries, entrySpelling, EntriesDemand3, EntriesAgree, Lanes, Lengths}

@@ -90,7 +90,7 @@ number-back (Defaulted low high default) (some t) k a b c =
 number-back (Constant value) none k a b c = (to-within value value value (omega arith) (omega arith), refl)
 number-back (Constant value) (some t) k a b c = absurd (true≢false a)
 
--- what a written slot satisfies
+-- what a written optional text satisfies
 pub record NumberWritten (r : NumberRule) (n : ℕ) (s : OptionalText) : Type 0 where
   pub placed : misplacedNumber r s ≡ false
   pub number : violates (isNumber r) s ≡ false
@@ -159,9 +159,9 @@ value-filled (some t) e = not-of-true (some-byte longestValue t (both (within 1 
 pub output-filled : (s : OptionalText) → violates isOutput s ≡ false → violates (λ t. not (empty t)) s ≡ false
 unfolding isOutput
 output-filled none e = refl
-output-filled (some t) e = not-of-true (some-byte longestOutput t (both (within 1 longestOutput (length t)) (canonical t) (is-true (isOutput t) e) .0))
+output-filled (some t) e = not-of-true (some-byte (longestOutput .0) t (both (within 1 (longestOutput .0) (length t)) (canonical t) (is-true (isOutput t) e) .0))
 
--- what a written slot satisfies, where a text may have so many characters
+-- what a written optional text satisfies, where a text may have so many characters
 pub record BytesWritten (most : ℕ) (r : BytesRule) (bs : List ℕ) (s : OptionalText) : Type 0 where
   pub placed : misplacedBytes r s ≡ false
   pub bytes : violates (isBytes r) s ≡ false
@@ -202,10 +202,10 @@ unfolding isText
 written-value none n c = refl
 written-value (some t) n c = not-of-true (and-true (is-true (within 1 longestValue (length t)) n) (canonical-values t (is-true (canonical t) c)))
 
-pub written-output : (s : OptionalText) → violates (λ t. within 1 longestOutput (length t)) s ≡ false → violates canonical s ≡ false → violates isOutput s ≡ false
+pub written-output : (s : OptionalText) → violates (λ t. within 1 (longestOutput .0) (length t)) s ≡ false → violates canonical s ≡ false → violates isOutput s ≡ false
 unfolding isOutput
 written-output none n c = refl
-written-output (some t) n c = not-of-true (and-true (is-true (within 1 longestOutput (length t)) n) (is-true (canonical t) c))
+written-output (some t) n c = not-of-true (and-true (is-true (within 1 (longestOutput .0) (length t)) n) (is-true (canonical t) c))
 
 -- ---- the version
 

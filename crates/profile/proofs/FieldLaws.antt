@@ -1,4 +1,4 @@
--- One number, one byte string, at a span that may hold nothing: what the code's tests and reads say of the slot there.
+-- One number, one byte string, at a span that may hold nothing: what the code's tests and reads say of the optional text there.
 -- Assumes nothing.
 use Prim.Native.Nat.{ℕ}
 use mathlib.Core.Bool.{Bool, true, false, not, cond}

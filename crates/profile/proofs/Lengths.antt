@@ -1,6 +1,6 @@
--- The length of the string that fields are written to, the most that an entry allows, and the least of a hash string.
+-- The length of the string that fields are written to, the most that a column allows, and the least of a hash string.
 -- Assumes nothing.
-use Prim.Native.Nat.{ℕ, _+_, _/_, _≤_, _<_, max}
+use Prim.Native.Nat.{ℕ, _+_, _/_, _≤_, max}
 use mathlib.Core.Bool.{Bool, true, false, not, cond, _&&_, _||_, true≢false, false≢true}
 use mathlib.Core.List.{List, [], _∷_}
 use mathlib.Core.Option.{none, some}
@@ -10,14 +10,11 @@ use lib.Dec.{leb, eqb}
 use lib.ListN.{length}
 use borrow.Author.Tests.{leb-true, eqb-true}
 use Rattle.text.specs.Text.{has, empty, every}
-use Rattle.text.specs.Place.{refused, putAfter}
 use Rattle.text.proofs.Tests.{both, from-within}
 use Rattle.b64.specs.Lengths.{charsOf}
 use Rattle.b64.proofs.B64Laws.{length-encode}
 use Rattle.decimal.specs.Decimal.{digitsWithin, digits}
 use Rattle.decimal.proofs.DecimalLaws.{by-tens, length-small, length-step, length-pos}
-use Rattle.grammar.specs.Limits.{longestString}
-use Rattle.grammar.proofs.Reading.{bad-string-long}
 use Rattle.table.specs.Limits.{Profile, inRange, versionAllowed, editionTwo, room}
 use Rattle.table.specs.declared.limits.NumberRule.{NumberRule}
 use Rattle.table.specs.declared.limits.NumberRule.the-variants.{Required, Defaulted, Constant}
@@ -26,11 +23,8 @@ use Rattle.table.specs.declared.limits.BytesRule.the-variants.{Sized, Forbidden
 use Rattle.table.specs.declared.version.Version.{Version}
 use Rattle.table.specs.declared.version.Version.the-variants.{Absent, Number}
 use Rattle.profile.specs.Fields.{FieldSet, writeNumber, writeBytes, writeVersion}
-use Rattle.profile.specs.Reader.{answer}
 use Rattle.profile.specs.Writer.{bytesAllowed, Allows, formatted}
 use Rattle.profile.specs.PieceTexts.{taggedLength}
-use Rattle.profile.specs.Entries.{reading, refusedReading, decoded}
-use Rattle.profile.specs.declared.fields.ByteString.{ByteString}
 use Rattle.profile.proofs.SoundLaws.{at-id}
 use Rattle.profile.proofs.Allows.{here}
 use Rattle.profile.proofs.Texts.{formatted-length}
@@ -101,7 +95,7 @@ version-most : (r : Profile) (v : Version) → versionAllowed (r .versions) v �
 version-most r Absent e = omega arith
 version-most r (Number n) e = let h = listed-most (r .versions) n e in omega arith
 
--- ---- the bounds of a string, by its entry
+-- ---- the bounds of a string, by its column
 
 unfoldable pub longest : Profile → ℕ
 longest r =
@@ -139,9 +133,9 @@ bounds e f h =
     let output = bytes-cost 1 (r .output) (f .output) (h .output) in
     (omega arith, λ o. omega (arith, salt .1 (salted (f .salt) (f .output) (h .order) o), output .1 o))
 
--- ---- numbers for the bounds, where a test of the edition's entries shows them
+-- ---- numbers for the bounds, where a test of the edition's columns shows them
 
--- the entry at k keeps to them
+-- the column at k keeps to them
 abbrev pub keepsTo : (ℕ → ℕ) → (ℕ → ℕ) → ℕ → Profile → Bool
 keepsTo most least k r = leb (longest r) (most k) && leb (least k) (shortest r)
 
@@ -176,18 +170,3 @@ most-room f h = go (leb (f .numbers .id) 3) (bounds-two f h .0)
     go : (b : Bool) → length (formatted editionTwo f) ≤ cond b room 171 → length (formatted editionTwo f) ≤ room
     go true l = l
     go false l = omega arith
-
--- ---- more than 2,896 bytes: every reader answers 1
-
-module _ (e : List Profile) (s : List ℕ) (h : longestString < length s) where
-  pub long : answer e s ≡ 1
-  unfolding answer
-  long = rw (bad-string-long s h)
-
-  pub long-reading : reading e s ≡ refusedReading 1
-  unfolding reading
-  long-reading = rw long
-
-  pub long-decoded : (c : ByteString) (buffer : List ℕ) (at : ℕ) → decoded e c s buffer at ≡ refused 1 buffer
-  unfolding decoded putAfter
-  long-decoded c buffer at = rw long

@@ -1,4 +1,4 @@
--- One reading of a string that the grammar accepts: its slots, its rows and its fields, by the places of its pieces.
+-- One reading of a string that the grammar accepts: its optional texts, its rows and its fields, by the places of its pieces.
 -- Assumes nothing.
 use Prim.Native.Nat.{ℕ}
 use mathlib.Core.Bool.{Bool, true, false, not, cond}
@@ -56,7 +56,7 @@ pub reading-refused : (e : List Profile) (s : List ℕ) (n : ℕ) → answer e s
 unfolding reading
 reading-refused e s n q z = rw (q, ne-eqb n 0 z)
 
--- ---- the slots at the places of the pieces
+-- ---- the optional texts at the places of the pieces
 
 module _ (s : List ℕ) (z : grammarNumber s ≡ 0) where
   pub optional-piece : (w : Piece) → spanText s (spanOf (placesOf (pieces s)) w) ≡ pieceIn (pieces s) w
@@ -91,7 +91,7 @@ part-items s z places e t q b =
     let here : items (partAt s (places .params)) ≡ itemsOf (pieces s .params) = rw b at same in
     ap (λ (l : List ℕ). all isItem (items l)) q ∙ ap (all isItem) here ∙ items-good s z
 
--- ---- a byte string by its slot
+-- ---- a byte string by its optional text
 
 canonical-none : canonical [] ≡ true
 unfolding canonical lowBitsZero sextet
@@ -104,7 +104,7 @@ canonical-optional r (some t) e = both (canonical t) (isSized r t) (is-true (isB
 canonical-output : (o : OptionalText) → violates isOutput o ≡ false → canonical (textOf o) ≡ true
 unfolding isOutput
 canonical-output none e = canonical-none
-canonical-output (some t) e = both (within 1 longestOutput (length t)) (canonical t) (is-true (isOutput t) e) .1
+canonical-output (some t) e = both (within 1 (longestOutput .0) (length t)) (canonical t) (is-true (isOutput t) e) .1
 
 decode-optional : (o : OptionalText) → decode (textOf o) ≡ readBytes o
 unfolding decode
@@ -193,7 +193,7 @@ module _ (s : List ℕ) (z : grammarNumber s ≡ 0) (places : Places) (values : 
       salt-row : violates (isBytes (r .salt)) (pieces s .salt) ≡ false
       salt-row = rows .1 .1 .1 .1 .1 .1 .1 .1 .1 .1 .1 .1 .0
 
-      -- a slot that is the one of the rules
+      -- an optional text that is the one of the rules
       by : (o u : OptionalText) → o ≡ u → canonical (textOf u) ≡ true → (canonical (textOf o) ≡ true) × (decode (textOf o) ≡ readBytes u)
       by o u e h = (ap (λ (x : OptionalText). canonical (textOf x)) e ∙ h, decode-optional o ∙ ap readBytes e)
 

@@ -41,7 +41,7 @@ short-agrees e ok =
 pub short-agrees-two : ShortAgrees editionTwo
 short-agrees-two = short-agrees editionTwo edition-two-defaults
 
--- the short writer as the code has it: a call of the writer with the usual numbers
+-- the short writer as the code has it: a call of the writer with its defaults
 pub short-by : (k : ℕ) (salt output buffer : List ℕ) (at : ℕ) (n : Fields) → n ≡ shortFields editionTwo k [] [] .numbers
     → writing editionTwo (fieldSet n [] [] salt output) buffer at ≡ shortWriting editionTwo k salt output buffer at
 unfolding shortFields

@@ -1,4 +1,4 @@
--- What the tests of specs/Sound.antt say of an entry; and the ids of an edition: the number of an id text and the entry at a number.
+-- What the tests of specs/Sound.antt say of a column; and the ids of an edition: the number of an id text and the column at a number.
 -- Assumes nothing.
 use Prim.Native.Nat.{ℕ, zero, suc, _<_}
 use mathlib.Core.Bool.{Bool, true, false, not, cond, _&&_, false≢true}
@@ -16,9 +16,9 @@ use Rattle.grammar.specs.Rules.{isName}
 use Rattle.table.specs.Limits.{Profile, inRange, versionAllowed, next, idOf, noProfile, profileOf, editionTwo, fewKilobytes}
 use Rattle.profile.specs.Sound.{soundNumber, soundBytes, soundOutput, soundVersions, soundAt, sound, defaultsAt, defaultsSound}
 
--- ---- a test on each entry
+-- ---- a test on each column
 
--- only an entry of the table is known
+-- only a column of the table is known
 known-inside : (rs : List Profile) (k : ℕ) → getD rs k noProfile .known ≡ true → k < length rs
 known-inside [] k h = absurd (false≢true h)
 known-inside (r ∷ rs) zero h = omega arith
@@ -30,8 +30,8 @@ at-id f e t (suc k) h = subst (λ (i : ℕ). f i (getD e k noProfile) ≡ true) 
 
 -- ---- the tests of an edition
 
--- what the test says of the entry r at k
-pub record Entry (e : List Profile) (k : ℕ) (r : Profile) : Type 0 where
+-- what the test says of the column r at k
+pub record SoundColumn (e : List Profile) (k : ℕ) (r : Profile) : Type 0 where
   pub found : idOf e (r .name) ≡ k
   pub named : isName (r .name) ≡ true
   pub versions : soundVersions (r .versions) ≡ true
@@ -43,8 +43,8 @@ pub record Entry (e : List Profile) (k : ℕ) (r : Profile) : Type 0 where
   pub salt : soundBytes (r .salt) ≡ true
   pub output : soundOutput (r .output) ≡ true
 
-entry : (e : List Profile) (k : ℕ) (r : Profile) → r .known ≡ true → soundAt e k r ≡ true → Entry e k r
-entry e k r known h₀ =
+sound-column : (e : List Profile) (k : ℕ) (r : Profile) → r .known ≡ true → soundAt e k r ≡ true → SoundColumn e k r
+sound-column e k r known h₀ =
     let h₁ = both _ _ (implied _ _ h₀ known) in
     let h₂ = both _ _ (h₁ .1) in
     let h₃ = both _ _ (h₂ .1) in
@@ -67,20 +67,20 @@ entry e k r known h₀ =
       output = h₉ .1;
     }
 
-pub entry-at : (e : List Profile) → sound e ≡ true → (k : ℕ) → profileOf e k .known ≡ true → Entry e k (profileOf e k)
+pub sound-column-at : (e : List Profile) → sound e ≡ true → (k : ℕ) → profileOf e k .known ≡ true → SoundColumn e k (profileOf e k)
 unfolding sound
-entry-at e s k h = entry e k (profileOf e k) h (at-id (soundAt e) e s k h)
+sound-column-at e s k h = sound-column e k (profileOf e k) h (at-id (soundAt e) e s k h)
 
 -- what the second test says: the short writer's numbers are permitted
-pub record DefaultsEntry (r : Profile) : Type 0 where
+pub record SoundDefaults (r : Profile) : Type 0 where
   pub version : versionAllowed (r .versions) (r .defaults .version) ≡ true
   pub m : inRange (r .m) (r .defaults .m) ≡ true
   pub t : inRange (r .t) (r .defaults .t) ≡ true
   pub p : inRange (r .p) (r .defaults .p) ≡ true
   pub lanes : fewKilobytes (r .defaults .m) (r .defaults .p) ≡ false
 
-defaults-entry : (k : ℕ) (r : Profile) → r .known ≡ true → defaultsAt k r ≡ true → DefaultsEntry r
-defaults-entry k r known h₀ =
+sound-defaults : (k : ℕ) (r : Profile) → r .known ≡ true → defaultsAt k r ≡ true → SoundDefaults r
+sound-defaults k r known h₀ =
     let u = r .defaults in
     let h₁ = both (versionAllowed (r .versions) (u .version)) _ (implied (r .known) _ h₀ known) in
     let h₂ = both (inRange (r .m) (u .m)) _ (h₁ .1) in
@@ -88,13 +88,13 @@ defaults-entry k r known h₀ =
     let h₄ = both (inRange (r .p) (u .p)) (not (fewKilobytes (u .m) (u .p))) (h₃ .1) in
     record { version = h₁ .0; m = h₂ .0; t = h₃ .0; p = h₄ .0; lanes = is-false (fewKilobytes (u .m) (u .p)) (h₄ .1) }
 
-pub defaults-at : (e : List Profile) → defaultsSound e ≡ true → (k : ℕ) → profileOf e k .known ≡ true → DefaultsEntry (profileOf e k)
+pub defaults-at : (e : List Profile) → defaultsSound e ≡ true → (k : ℕ) → profileOf e k .known ≡ true → SoundDefaults (profileOf e k)
 unfolding defaultsSound
-defaults-at e s k h = defaults-entry k (profileOf e k) h (at-id defaultsAt e s k h)
+defaults-at e s k h = sound-defaults k (profileOf e k) h (at-id defaultsAt e s k h)
 
 -- ---- ids and their numbers
 
--- an id text whose entry is known is the name of that entry
+-- an id text whose column is known is the name of that column
 pub name-of : (e : List Profile) (s : List ℕ) → profileOf e (idOf e s) .known ≡ true → profileOf e (idOf e s) .name ≡ s
 name-of [] s h = absurd (false≢true h)
 name-of (r ∷ rs) s h = go (r .known && same s (r .name)) refl (idOf rs s) h (name-of rs s)

@@ -38,7 +38,7 @@ use Rattle.profile.specs.Writer.{Permitted, itemList, fieldValues, field
 use Rattle.profile.specs.Sound.{sound}
 use Rattle.profile.proofs.Codecs.{digits-values, NumberWritten, number-forth, BytesWritten, bytes-forth, written-value, written-output, VersionWritten, version-forth}
 use Rattle.profile.proofs.NamedValues.{values-list}
-use Rattle.profile.proofs.SoundLaws.{Entry, entry-at}
+use Rattle.profile.proofs.SoundLaws.{SoundColumn, sound-column-at}
 
 -- ---- the items keep the grammar's rule
 
@@ -176,7 +176,7 @@ module _ (e : List Profile) (ok : sound e ≡ true) where
 
   record Facts (f : FieldSet) (r : Profile) : Type 0 where
     known : profileOf e (f .numbers .id) .known ≡ true
-    entry : Entry e (f .numbers .id) r
+    column : SoundColumn e (f .numbers .id) r
     version : VersionWritten (f .numbers .version) (writeVersion (f .numbers .version))
     allowed : versionAllowed (r .versions) (f .numbers .version) ≡ true
     m : NumberWritten (r .m) (f .numbers .m) (writeNumber (r .m) (f .numbers .m))
@@ -186,14 +186,14 @@ module _ (e : List Profile) (ok : sound e ≡ true) where
     keyid : BytesWritten longestValue (r .keyid) (f .keyid) (writeBytes (f .keyid))
     «data» : BytesWritten longestValue (r .«data») (f .«data») (writeBytes (f .«data»))
     salt : BytesWritten longestValue (r .salt) (f .salt) (writeBytes (f .salt))
-    output : BytesWritten longestOutput (r .output) (f .output) (writeBytes (f .output))
+    output : BytesWritten (longestOutput .0) (r .output) (f .output) (writeBytes (f .output))
     order : After (writeBytes (f .salt)) (writeBytes (f .output))
 
   -- keyid, data and salt are values, and the output is one
   value : {r : BytesRule} {bs : List ℕ} {s : OptionalText} → BytesWritten longestValue r bs s → violates isValue s ≡ false
   value {r} {bs} {s} h = written-value s (h .counted) (h .text-is)
 
-  output-is : {r : BytesRule} {bs : List ℕ} {s : OptionalText} → BytesWritten longestOutput r bs s → violates isOutput s ≡ false
+  output-is : {r : BytesRule} {bs : List ℕ} {s : OptionalText} → BytesWritten (longestOutput .0) r bs s → violates isOutput s ≡ false
   output-is {r} {bs} {s} h = written-output s (h .counted) (h .text-is)
 
   facts : (f : FieldSet) → Permitted e f → Facts f (profileOf e (f .numbers .id))
@@ -201,11 +201,11 @@ module _ (e : List Profile) (ok : sound e ≡ true) where
       let h = permitted .column in
       let n = f .numbers in
       let r = profileOf e (n .id) in
-      let E = entry-at e ok (n .id) (h .id) in
+      let E = sound-column-at e ok (n .id) (h .id) in
       let b = permitted .bytes in
       record {
         known = h .id;
-        entry = E;
+        column = E;
         version = version-forth (r .versions) (n .version) (E .versions) (h .version);
         allowed = h .version;
         m = number-forth (r .m) (n .m) (E .m) (h .m);
@@ -215,7 +215,7 @@ module _ (e : List Profile) (ok : sound e ≡ true) where
         keyid = bytes-forth longestValue (r .keyid) (f .keyid) (E .keyid) (b .0) (h .keyid);
         «data» = bytes-forth longestValue (r .«data») (f .«data») (E .«data») (b .1) (h .«data»);
         salt = bytes-forth longestValue (r .salt) (f .salt) (E .salt) (b .2) (h .salt);
-        output = bytes-forth longestOutput (r .output) (f .output) (E .output) (b .3) (h .output);
+        output = bytes-forth (longestOutput .0) (r .output) (f .output) (E .output) (b .3) (h .output);
         order = after (f .salt) (f .output) (h .order);
       }
 
@@ -239,7 +239,7 @@ module _ (e : List Profile) (ok : sound e ≡ true) where
         params-fits = params-fit is salt output (value (h .salt)) (h .order);
         salt-fits = salt-fit salt output (h .order);
         output-fits = output-fit output;
-        id-free = name-free 36 refl refl (r .name) (h .entry .named);
+        id-free = name-free 36 refl refl (r .name) (h .column .named);
         others-free =
             add-free (writeVersion (f .numbers .version)) _ (version-free (f .numbers .version))
             (add-free (paramsText is) _ (params-free is g)
@@ -252,7 +252,7 @@ module _ (e : List Profile) (ok : sound e ≡ true) where
       let r = profileOf e (f .numbers .id) in
       let is = itemList names (fieldValues r f) in
       let k = few names (fieldValues r f) in (
-        not-of-true (h .entry .named),
+        not-of-true (h .column .named),
         (
           h .version .version,
           (params-good is (items-good f r h) (omega arith), (value (h .salt), (output-is (h .output), (refl, tt)))),
@@ -303,7 +303,7 @@ module _ (e : List Profile) (ok : sound e ≡ true) where
       let r = profileOf e (f .numbers .id) in
       let q = read-as f r h in
       subst Clear
-      (λ i. rowsFor (profileOf e (sym (h .entry .found) i)) (sym (h .version .reads) i) (sym (q .0) i) (not (empty (sym (q .1) i))) (writeBytes (f .salt)) (writeBytes (f .output)))
+      (λ i. rowsFor (profileOf e (sym (h .column .found) i)) (sym (h .version .reads) i) (sym (q .0) i) (not (empty (sym (q .1) i))) (writeBytes (f .salt)) (writeBytes (f .output)))
       (rows-clear f h)
 
   carried-back : (f : FieldSet) → Facts f (profileOf e (f .numbers .id)) → carried e (fieldPieces e f) ≡ f
@@ -313,7 +313,7 @@ module _ (e : List Profile) (ok : sound e ≡ true) where
       let r = profileOf e (n .id) in
       let q = read-as f r h in
       let same-pieces : carried e (fieldPieces e f) ≡ fieldsFor r (n .id) (n .version) (fieldValues r f) (writeBytes (f .salt)) (writeBytes (f .output)) =
-      λ i. fieldsFor (profileOf e (h .entry .found i)) (h .entry .found i) (h .version .reads i) (q .0 i) (writeBytes (f .salt)) (writeBytes (f .output)) in
+      λ i. fieldsFor (profileOf e (h .column .found i)) (h .column .found i) (h .version .reads i) (q .0 i) (writeBytes (f .salt)) (writeBytes (f .output)) in
       let same-fields : fieldsFor r (n .id) (n .version) (fieldValues r f) (writeBytes (f .salt)) (writeBytes (f .output)) ≡ f =
       λ i. record {
         numbers = record { id = n .id; version = n .version; m = h .m .reads i; t = h .t .reads i; p = h .p .reads i };

@@ -30,13 +30,13 @@ abbrev pub soundBytes : BytesRule → Bool
 soundBytes r = textWithin longestValue r
 
 abbrev pub soundOutput : BytesRule → Bool
-soundOutput r = textWithin longestOutput r
+soundOutput r = textWithin (longestOutput .0) r
 
 -- version numbers that the grammar takes
 abbrev pub soundVersions : List ℕ → Bool
 soundVersions vs = all (within 0 largestVersion) vs
 
--- the entry at k has an id of its own, and limits within what the grammar takes
+-- the column at k has an id of its own, and limits within what the grammar takes
 abbrev pub soundAt : List Profile → ℕ → Profile → Bool
 soundAt e k r =
     not (r .known) || (eqb (idOf e (r .name)) k

@@ -11,6 +11,7 @@ use table::omitted::default_of;
 use table::omitted::is_omitted;
 use table::ranges::highest_of;
 use table::ranges::lowest_of;
+use text::units::Chars;
 ghost use Prim.Native.Nat.{ℕ, _≤_};
 ghost use mathlib.Core.Path.{_≡_};
 ghost use mathlib.Core.Option.{some};
@@ -89,24 +90,24 @@ pub fn written_out(rule: NumberRule, span: Span, value: u32) -> bool
     is_omitted(rule, value)
 }
 
-// The length of a number after a tag of so many bytes; nothing where it is left out.
-pub fn number_len(tag: usize, rule: NumberRule, n: u32) -> usize
-    requires { ⌜ tag ≤ room ⌝ }
-    ensures { λ r. ⌜ r ≡ taggedLength tag (writeNumber rule n) ⌝ }
+// The length of a number after a tag of so many characters; nothing where it is left out.
+pub fn number_len(tag: Chars, rule: NumberRule, n: u32) -> Chars
+    requires { ⌜ tag .0 ≤ room ⌝ }
+    ensures { λ r. ⌜ r .0 ≡ taggedLength (tag .0) (writeNumber rule n) ⌝ }
 {
     if is_omitted(rule, n) {
-        return 0;
+        return Chars(0);
     }
     decimal_len(tag, n)
 }
 
 // Puts a number after its tag at the start of a buffer; nothing where it is left out.
-pub fn put_number(tag: &[u8], rule: NumberRule, n: u32, out: &mut [u8]) -> usize
+pub fn put_number(tag: &[u8], rule: NumberRule, n: u32, out: &mut [u8]) -> Chars
     requires { ⌜ length (tagged (now tag) (writeNumber rule n)) ≤ length (now out) ⌝ }
-    ensures { λ r. ⌜ Wrote (tagged (now (tag .entry)) (writeNumber rule n)) (now (out .entry)) (now (out .exit)) r ⌝ }
+    ensures { λ r. ⌜ Wrote (tagged (now (tag .entry)) (writeNumber rule n)) (now (out .entry)) (now (out .exit)) (r .0) ⌝ }
 {
     if is_omitted(rule, n) {
-        return 0;
+        return Chars(0);
     }
     put_decimal(tag, n, out)
 }

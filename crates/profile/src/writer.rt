@@ -37,17 +37,14 @@ pub fn write(
         };
     }
     let count = string_len(column, n, keyid, data, salt, output);
-    if !has_room(buf.len(), at, count) {
+    if !has_room(buf.len(), at, count.0) {
         return Written {
             number: NO_ROOM,
             count: Chars(0),
         };
     }
     put_string(column, n, keyid, data, salt, output, &mut buf[at..]);
-    Written {
-        number: 0,
-        count: Chars(count),
-    }
+    Written { number: 0, count }
 }
 
 // The number fields that the short writer uses.

@@ -9,6 +9,7 @@ use crate::tagged::put_bytes;
 use crate::version_field::put_version;
 use crate::version_field::version_len;
 use table::limits::Column;
+use text::units::Chars;
 ghost use Prim.Native.Nat.{_≤_};
 ghost use mathlib.Core.Path.{_≡_};
 ghost use lib.ListN.{length};
@@ -19,14 +20,16 @@ ghost use Rattle.profile.specs.Fields.{fieldSet};
 ghost use Rattle.profile.specs.PieceTexts.{costsText, costsLength, itemsText, dollared, headText, piecesText, piecesLength};
 
 // The length of the numbers as items.
-fn costs_len(column: Column, n: Fields) -> usize
+fn costs_len(column: Column, n: Fields) -> Chars
     requires { ⌜ costsLength (profileIn column) n ≤ room ⌝ }
-    ensures { λ r. ⌜ r ≡ costsLength (profileIn column) n ⌝ }
+    ensures { λ r. ⌜ r .0 ≡ costsLength (profileIn column) n ⌝ }
 {
     let m = column.m;
     let t = column.t;
     let p = column.p;
-    number_len(3, m, n.m) + number_len(3, t, n.t) + number_len(3, p, n.p)
+    let m_len = number_len(Chars(3), m, n.m);
+    let t_len = number_len(Chars(3), t, n.t);
+    m_len.plus(t_len).plus(number_len(Chars(3), p, n.p))
 }
 
 // The length of the string.
@@ -37,66 +40,75 @@ pub fn string_len(
     data: &[u8],
     salt: &[u8],
     output: &[u8],
-) -> usize
+) -> Chars
     requires { ⌜ piecesLength (profileIn column) (fieldSet n (now keyid) (now «data») (now salt) (now output)) ≤ room ⌝ }
-    ensures { λ r. ⌜ r ≡ piecesLength (profileIn column) (fieldSet n (now (keyid .entry)) (now («data» .entry)) (now (salt .entry)) (now (output .entry))) ⌝ }
+    ensures { λ r. ⌜ r .0 ≡ piecesLength (profileIn column) (fieldSet n (now (keyid .entry)) (now («data» .entry)) (now (salt .entry)) (now (output .entry))) ⌝ }
 {
     let version = n.version;
-    1
-        + name_len(column.name)
-        + version_len(version)
-        + costs_len(column, n)
-        + bytes_len(7, keyid)
-        + bytes_len(6, data)
-        + bytes_len(1, salt)
-        + bytes_len(1, output)
+    Chars(1)
+        .plus(name_len(column.name))
+        .plus(version_len(version))
+        .plus(costs_len(column, n))
+        .plus(bytes_len(Chars(7), keyid))
+        .plus(bytes_len(Chars(6), data))
+        .plus(bytes_len(Chars(1), salt))
+        .plus(bytes_len(Chars(1), output))
 }
 
 // The numbers as items, each with a comma before it.
-fn put_costs(column: Column, n: Fields, out: &mut [u8]) -> usize
+fn put_costs(column: Column, n: Fields, out: &mut [u8]) -> Chars
     requires { ⌜ length (costsText (profileIn column) n) ≤ length (now out) ⌝ }
-    ensures { λ r. ⌜ Wrote (costsText (profileIn column) n) (now (out .entry)) (now (out .exit)) r ⌝ }
+    ensures { λ r. ⌜ Wrote (costsText (profileIn column) n) (now (out .entry)) (now (out .exit)) (r .0) ⌝ }
 {
     let m = column.m;
     let t = column.t;
     let p = column.p;
-    let after_m = put_number(b",m=", m, n.m, out);
-    let after_t = after_m + put_number(b",t=", t, n.t, &mut out[after_m..]);
-    after_t + put_number(b",p=", p, n.p, &mut out[after_t..])
+    let m_put = put_number(b",m=", m, n.m, out);
+    let after_m = m_put.0;
+    let t_put = put_number(b",t=", t, n.t, &mut out[after_m..]);
+    let after_t = after_m + t_put.0;
+    let p_put = put_number(b",p=", p, n.p, &mut out[after_t..]);
+    Chars(after_t + p_put.0)
 }
 
 // The items, each with a comma before it.
-fn put_items(column: Column, n: Fields, keyid: &[u8], data: &[u8], out: &mut [u8]) -> usize
+fn put_items(column: Column, n: Fields, keyid: &[u8], data: &[u8], out: &mut [u8]) -> Chars
     requires { ⌜ length (itemsText (profileIn column) n (now keyid) (now «data»)) ≤ length (now out) ⌝ }
-    ensures { λ r. ⌜ Wrote (itemsText (profileIn column) n (now (keyid .entry)) (now («data» .entry))) (now (out .entry)) (now (out .exit)) r ⌝ }
+    ensures { λ r. ⌜ Wrote (itemsText (profileIn column) n (now (keyid .entry)) (now («data» .entry))) (now (out .entry)) (now (out .exit)) (r .0) ⌝ }
 {
-    let after_costs = put_costs(column, n, out);
-    let after_keyid = after_costs + put_bytes(b",keyid=", keyid, &mut out[after_costs..]);
-    after_keyid + put_bytes(b",data=", data, &mut out[after_keyid..])
+    let costs_put = put_costs(column, n, out);
+    let after_costs = costs_put.0;
+    let keyid_put = put_bytes(b",keyid=", keyid, &mut out[after_costs..]);
+    let after_keyid = after_costs + keyid_put.0;
+    let data_put = put_bytes(b",data=", data, &mut out[after_keyid..]);
+    Chars(after_keyid + data_put.0)
 }
 
 // The parameter piece with its `$`, or nothing: the `$` stands where the first comma stood.
-fn put_params(column: Column, n: Fields, keyid: &[u8], data: &[u8], out: &mut [u8]) -> usize
+fn put_params(column: Column, n: Fields, keyid: &[u8], data: &[u8], out: &mut [u8]) -> Chars
     requires { ⌜ length (dollared (itemsText (profileIn column) n (now keyid) (now «data»))) ≤ length (now out) ⌝ }
-    ensures { λ r. ⌜ Wrote (dollared (itemsText (profileIn column) n (now (keyid .entry)) (now («data» .entry)))) (now (out .entry)) (now (out .exit)) r ⌝ }
+    ensures { λ r. ⌜ Wrote (dollared (itemsText (profileIn column) n (now (keyid .entry)) (now («data» .entry)))) (now (out .entry)) (now (out .exit)) (r .0) ⌝ }
 {
     let count = put_items(column, n, keyid, data, out);
-    if count == 0 {
-        return 0;
+    if count.0 == 0 {
+        return Chars(0);
     }
     out[0] = b'$';
     count
 }
 
 // Id, version and parameters.
-fn put_head(column: Column, n: Fields, keyid: &[u8], data: &[u8], out: &mut [u8]) -> usize
+fn put_head(column: Column, n: Fields, keyid: &[u8], data: &[u8], out: &mut [u8]) -> Chars
     requires { ⌜ length (headText (profileIn column) n (now keyid) (now «data»)) ≤ length (now out) ⌝ }
-    ensures { λ r. ⌜ Wrote (headText (profileIn column) n (now (keyid .entry)) (now («data» .entry))) (now (out .entry)) (now (out .exit)) r ⌝ }
+    ensures { λ r. ⌜ Wrote (headText (profileIn column) n (now (keyid .entry)) (now («data» .entry))) (now (out .entry)) (now (out .exit)) (r .0) ⌝ }
 {
     let version = n.version;
-    let after_id = put_name(column.name, out);
-    let after_version = after_id + put_version(version, &mut out[after_id..]);
-    after_version + put_params(column, n, keyid, data, &mut out[after_version..])
+    let id_put = put_name(column.name, out);
+    let after_id = id_put.0;
+    let version_put = put_version(version, &mut out[after_id..]);
+    let after_version = after_id + version_put.0;
+    let params_put = put_params(column, n, keyid, data, &mut out[after_version..]);
+    Chars(after_version + params_put.0)
 }
 
 // The whole string: each piece is lent what is left of the buffer.
@@ -108,11 +120,14 @@ pub fn put_string(
     salt: &[u8],
     output: &[u8],
     out: &mut [u8],
-) -> usize
+) -> Chars
     requires { ⌜ length (piecesText (profileIn column) (fieldSet n (now keyid) (now «data») (now salt) (now output))) ≤ length (now out) ⌝ }
-    ensures { λ r. ⌜ Wrote (piecesText (profileIn column) (fieldSet n (now (keyid .entry)) (now («data» .entry)) (now (salt .entry)) (now (output .entry)))) (now (out .entry)) (now (out .exit)) r ⌝ }
+    ensures { λ r. ⌜ Wrote (piecesText (profileIn column) (fieldSet n (now (keyid .entry)) (now («data» .entry)) (now (salt .entry)) (now (output .entry)))) (now (out .entry)) (now (out .exit)) (r .0) ⌝ }
 {
-    let after_head = put_head(column, n, keyid, data, out);
-    let after_salt = after_head + put_bytes(b"$", salt, &mut out[after_head..]);
-    after_salt + put_bytes(b"$", output, &mut out[after_salt..])
+    let head_put = put_head(column, n, keyid, data, out);
+    let after_head = head_put.0;
+    let salt_put = put_bytes(b"$", salt, &mut out[after_head..]);
+    let after_salt = after_head + salt_put.0;
+    let output_put = put_bytes(b"$", output, &mut out[after_salt..]);
+    Chars(after_salt + output_put.0)
 }

@@ -15,11 +15,11 @@ use Rattle.grammar.specs.Parts.{partAt}
 use Rattle.table.specs.Limits.{Profile, noProfile, argon2, pbkdf2, profileOf, next, idOf, isNamed, editionTwo}
 use Rattle.table.specs.Columns.{nameIn, nameAt, nameIndex}
 
--- the entry of a number, as the code chooses it
-abbrev entryAt : ℕ → Profile
-entryAt k = cond (ltb k 1) noProfile (cond (ltb k 4) (argon2 (nameAt k)) (cond (ltb k 6) (pbkdf2 (nameAt k)) noProfile))
+-- the column of a number, as the code chooses it
+abbrev columnAt : ℕ → Profile
+columnAt k = cond (ltb k 1) noProfile (cond (ltb k 4) (argon2 (nameAt k)) (cond (ltb k 6) (pbkdf2 (nameAt k)) noProfile))
 
-table-test : tabulate entryAt 0 6 ≡ noProfile ∷ editionTwo
+table-test : tabulate columnAt 0 6 ≡ noProfile ∷ editionTwo
 unfolding editionTwo nameIn partAt
 table-test = refl
 
@@ -29,36 +29,36 @@ unfolding nameIn partAt editionTwo
 none-named zero h = refl
 none-named (suc k) h = absurd (omega arith)
 
-entry-past : (k : ℕ) → 6 ≤ k → entryAt k ≡ noProfile
-entry-past k h = rw (le-ltb k 1 (omega arith), le-ltb k 4 (omega arith), le-ltb k 6 h)
+column-past : (k : ℕ) → 6 ≤ k → columnAt k ≡ noProfile
+column-past k h = rw (le-ltb k 1 (omega arith), le-ltb k 4 (omega arith), le-ltb k 6 h)
 
-entry-rule : (k : ℕ) → entryAt k ≡ profileOf editionTwo k
-entry-rule k = tabulated entryAt noProfile 6 (noProfile ∷ editionTwo) table-test entry-past k
+column-rule : (k : ℕ) → columnAt k ≡ profileOf editionTwo k
+column-rule k = tabulated columnAt noProfile 6 (noProfile ∷ editionTwo) table-test column-past k
 
 -- ---- by the tests of the code
 
 module _ (k : ℕ) where
-  -- the index of the name, by the entry
+  -- the index of the name, by the column
   pub index-by : (r : Profile) → r ≡ profileOf editionTwo k → cond (r .known) k 0 ≡ nameIndex k
   index-by r e = ap (λ (r : Profile). cond (r .known) k 0) e
 
-  pub entry-none : k < 1 → noProfile ≡ profileOf editionTwo k
-  entry-none h = sym (rw (lt-ltb k 1 h)) ∙ entry-rule k
+  pub column-none : k < 1 → noProfile ≡ profileOf editionTwo k
+  column-none h = sym (rw (lt-ltb k 1 h)) ∙ column-rule k
 
-  pub entry-argon2 : 1 ≤ k → k < 4 → argon2 (nameAt k) ≡ profileOf editionTwo k
-  entry-argon2 l h = sym (rw (le-ltb k 1 l, lt-ltb k 4 h)) ∙ entry-rule k
+  pub column-argon2 : 1 ≤ k → k < 4 → argon2 (nameAt k) ≡ profileOf editionTwo k
+  column-argon2 l h = sym (rw (le-ltb k 1 l, lt-ltb k 4 h)) ∙ column-rule k
 
-  pub entry-pbkdf2 : 4 ≤ k → k < 6 → pbkdf2 (nameAt k) ≡ profileOf editionTwo k
-  entry-pbkdf2 l h = sym (rw (le-ltb k 1 (omega arith), le-ltb k 4 l, lt-ltb k 6 h)) ∙ entry-rule k
+  pub column-pbkdf2 : 4 ≤ k → k < 6 → pbkdf2 (nameAt k) ≡ profileOf editionTwo k
+  column-pbkdf2 l h = sym (rw (le-ltb k 1 (omega arith), le-ltb k 4 l, lt-ltb k 6 h)) ∙ column-rule k
 
-  pub entry-other : 6 ≤ k → noProfile ≡ profileOf editionTwo k
-  entry-other h = sym (entry-past k h) ∙ entry-rule k
+  pub column-other : 6 ≤ k → noProfile ≡ profileOf editionTwo k
+  column-other h = sym (column-past k h) ∙ column-rule k
 
 -- ---- the number of an id text, index by index
 
 -- the name stands at its index
 pub name-rule : (k : ℕ) → k < 6 → profileOf editionTwo k .name ≡ nameAt k
-name-rule k h = ap (λ (r : Profile). r .name) (sym (entry-rule k)) ∙ rw (lt-ltb k 6 h) (go (ltb k 1) (ltb k 4) refl)
+name-rule k h = ap (λ (r : Profile). r .name) (sym (column-rule k)) ∙ rw (lt-ltb k 6 h) (go (ltb k 1) (ltb k 4) refl)
   where
     go : (a b : Bool) → ltb k 1 ≡ a → cond a noProfile (cond b (argon2 (nameAt k)) (pbkdf2 (nameAt k))) .name ≡ nameAt k
     go true b e = none-named k (ltb-true k 1 e)
@@ -84,7 +84,7 @@ counted-next : (j n : ℕ) → counted j (next n) ≡ counted (suc j) n
 counted-next j zero = refl
 counted-next j (suc n) = rw (eqb·suc-zero (suc n), eqb·suc-zero n) (omega arith)
 
--- the number of an id text among the entries after the first j
+-- the number of an id text among the columns after the first j
 abbrev pub idFrom : ℕ → List ℕ → ℕ
 idFrom j s = counted j (idOf (drop j editionTwo) s)
 

@@ -15,3 +15,4 @@ pub mod Writers
 pub mod Groups
 pub mod Splitting
 pub mod Joining
+pub mod Sums

@@ -1,3 +1,4 @@
 pub mod Text
 pub mod Place
 pub mod Rows
+pub mod Units

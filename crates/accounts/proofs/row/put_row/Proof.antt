@@ -46,8 +46,8 @@ add-after-answer c = chain-sum (third (c .before .before .before))
 add-before-kind : tie.Need-add-before-kind
 add-before-kind c = chain-sum (fourth (c .before .before .before))
 
-add-result : tie.Need-add-result
-add-result c = chain-sum (fifth (c .before .before .before))
+add-t30 : tie.Need-add-t30
+add-t30 c = chain-sum (fifth (c .before .before .before))
 
 same-length : tie.Need-same-length
 same-length c = chain-length (fifth (c .before .before .before))
@@ -71,6 +71,6 @@ put-row-spec =
     (λ c κs. search needs)
     add-before-kind
     (λ c κs. search needs)
-    add-result
+    add-t30
     same-length
     returns)

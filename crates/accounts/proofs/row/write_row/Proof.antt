@@ -10,7 +10,7 @@ use Rattle.accounts.proofs.row.write_row.Tie as tie
 
 asked : (c : tie.After-has-room)
     → let a = c .before .before .before .args in
-    Asked (now (a .buf)) (a .at) (rowText (a .line) (a .answer)) (c .before .row-len .result) (c .has-room .result)
+    Asked (now (a .buf)) (a .at) (rowText (a .line) (a .answer)) (c .before .row-len .result .0) (c .has-room .result)
 asked c = record { counted = c .before .row-len .ensures; answered = c .has-room .ensures }
 
 returns : tie.Need-returns

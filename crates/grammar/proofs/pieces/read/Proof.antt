@@ -8,7 +8,7 @@ use Rattle.grammar.specs.Pieces.{pieces}
 use Rattle.grammar.specs.Rules.{beginsWithDollar, badString, grammarNumber}
 use Rattle.grammar.specs.Layout.{placesOf, acceptedLayout}
 use Rattle.grammar.specs.declared.sorting.Sorted.{Sorted}
-use Rattle.grammar.proofs.Reading.{bad-string-starts, number-whole, number-pieces, layout-refused, layout-accepted}
+use Rattle.grammar.proofs.Reading.{bad-string-begins, number-bad-string, number-pieces, layout-refused, layout-accepted}
 use Rattle.grammar.proofs.pieces.read.Statement.{statement}
 use Rattle.grammar.proofs.pieces.read.Tie as tie
 
@@ -17,7 +17,7 @@ sound : (c : tie.Else1) → badString (now (c .before .before .before .args .s))
 sound c = sym (c .before .bad-string .ensures) ∙ c .if1 .left
 
 begun : (c : tie.Else1) → beginsWithDollar (now (c .before .before .before .args .s)) ≡ true
-begun c = bad-string-starts (now (c .before .before .before .args .s)) (sound c)
+begun c = bad-string-begins (now (c .before .before .before .args .s)) (sound c)
 
 placed : (c : tie.After-sort) → c .sort .result .places ≡ placesOf (pieces (now (c .before .before .before .before .args .s)))
 placed c = ap (λ (x : Sorted). x .places) (c .sort .ensures)
@@ -26,7 +26,7 @@ returns : tie.Need-returns
 returns c =
     let w = c .before .before in
     c .refused .ensures
-    ∙ sym (layout-refused (now (w .before .before .args .s)) 1 (number-whole (now (w .before .before .args .s)) (sym (w .bad-string .ensures) ∙ c .before .if1 .taken)) (λ e. omega arith))
+    ∙ sym (layout-refused (now (w .before .before .args .s)) 1 (number-bad-string (now (w .before .before .args .s)) (sym (w .bad-string .ensures) ∙ c .before .if1 .taken)) (λ e. omega arith))
 
 sort-requires : tie.Need-sort-requires
 sort-requires c κs = begun c

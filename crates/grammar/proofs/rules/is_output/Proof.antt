@@ -16,7 +16,7 @@ returns-2 c = simp (lt-leb _ _ (c .if2 .taken), and-false)
 
 returns-3 : tie.Need-returns-3
 unfolding isOutput
-returns-3 c = simp (le-leb _ _ (c .before .before .if1 .left), le-leb _ _ (c .before .if2 .left)) (c .is-canonical .ensures)
+returns-3 c = simp (le-leb _ _ (c .before .before .before .if1 .left), le-leb _ _ (c .before .if2 .left)) (c .is-canonical .ensures)
 
 pub is-output-spec : {M : Type 1} → statement M
 is-output-spec = tie.close (tie.spec returns returns-2 (λ c κs. search needs) returns-3)

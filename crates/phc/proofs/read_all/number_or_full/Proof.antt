@@ -1,4 +1,4 @@
--- `phc::whole::number_or_full` meets its contract. Assumes nothing.
+-- `phc::read_all::number_or_full` meets its contract. Assumes nothing.
 use borrow.Author.Tests.{ne-eqb}
 use borrow.Author.Needs.{needs}
 use Rattle.phc.proofs.read_all.number_or_full.Statement.{statement}

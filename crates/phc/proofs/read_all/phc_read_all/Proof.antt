@@ -1,4 +1,4 @@
--- `phc::whole::phc_read_all` meets its contract. Assumes nothing.
+-- `phc::read_all::phc_read_all` meets its contract. Assumes nothing.
 use denote.Ref.{now}
 use borrow.Author.Needs.{needs}
 use Rattle.phc.proofs.RecordAllLaws.{record-all-short, record-all-refused, record-all-done}

@@ -18,7 +18,7 @@ use Rattle.profile.proofs.JudgeLaws.{ten-unmatched, ten-missing, ten-cl
 use Rattle.profile.proofs.judge.judge.Statement.{statement}
 use Rattle.profile.proofs.judge.judge.Tie as tie
 
--- the column, the values of the names, the two last slots, and the rows
+-- the column, the values of the names, the two last optional texts, and the rows
 abbrev entry : tie.Start → Profile
 entry a = profileIn (a .args .column)
 

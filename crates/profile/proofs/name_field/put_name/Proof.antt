@@ -22,17 +22,17 @@ abbrev start : tie.After-put-text → tie.Start
 start a = a .before .before .before .before .before
 
 -- what is put after each call
-first : (a : tie.After-put-text) → First (fits (start a)) (a .put-text .last .1 .0) (a .put-text .result)
+first : (a : tie.After-put-text) → First (fits (start a)) (a .put-text .last .1 .0) (a .put-text .result .0)
 first a = first-wrote (fits (start a)) (a .put-text .ensures)
 
 abbrev at-first : tie.After-put-text2 → tie.After-put-text
 at-first b = b .before .before .before .before .before .before
 
-second : (b : tie.After-put-text2) → Next (first (at-first b)) (b .put-text2 .last .1 .0) (b .put-text2 .result)
+second : (b : tie.After-put-text2) → Next (first (at-first b)) (b .put-text2 .last .1 .0) (b .put-text2 .result .0)
 unfolding editionTwo
 second b =
     next-wrote (first (at-first b))
-    (subst (λ (t : List ℕ). Wrote t (take (length (at-first b .put-text .last .1 .0) - at-first b .put-text .result) (drop (at-first b .put-text .result) (at-first b .put-text .last .1 .0))) (b .put-text2 .last .1 .0) (b .put-text2 .result)) (b .before .before .name-at .ensures) (b .put-text2 .ensures))
+    (subst (λ (t : List ℕ). Wrote t (take (length (at-first b .put-text .last .1 .0) - at-first b .put-text .result .0) (drop (at-first b .put-text .result .0) (at-first b .put-text .last .1 .0))) (b .put-text2 .last .1 .0) (b .put-text2 .result .0)) (b .before .before .name-at .ensures) (b .put-text2 .ensures))
 
 put-text-requires : tie.Need-put-text-requires
 put-text-requires c κs = first-room (fits (c .before .before .before .before))
@@ -47,11 +47,11 @@ put-text-requires-2 : tie.Need-put-text-requires-2
 unfolding editionTwo
 put-text-requires-2 c κs = rw (c .before .name-at .ensures) (next-room (first (c .before .before .before .before .before)) .1)
 
-add-result : tie.Need-add-result
-add-result c = chain-sum (second (c .before .before))
+add-t17 : tie.Need-add-t17
+add-t17 c = chain-sum (second (c .before .before .before))
 
 returns : tie.Need-returns
-returns c = second (c .before .before) .wrote
+returns c = second (c .before .before .before) .wrote
 
 pub put-name-spec : {M : Type 1} → statement M
 put-name-spec =
@@ -64,6 +64,6 @@ put-name-spec =
     part-put-text-start
     (λ c. search needs)
     put-text-requires-2
-    add-result
+    add-t17
     (λ c. search needs)
     returns)

@@ -1,5 +1,5 @@
 -- `profile::reader::algorithm_version` meets its contract. Assumes nothing.
-use mathlib.Core.Path.{_≡_, _∙_, ap}
+use mathlib.Core.Path.{_∙_, ap}
 use borrow.Author.Needs.{needs}
 use Rattle.table.specs.Limits.{editionTwo}
 use Rattle.profile.specs.Entries.{algorithmVersionOf, algorithmVersion}

@@ -18,10 +18,10 @@ use Rattle.profile.proofs.tagged.bytes_len.Tie as tie
 abbrev at-else : tie.Else1 → tie.Start
 at-else c = c .before .before
 
-there : (c : tie.Else1) → taggedLength (at-else c .args .tag) (writeBytes (now (at-else c .args .bytes))) ≡ at-else c .args .tag + length (encode (now (at-else c .args .bytes)))
+there : (c : tie.Else1) → taggedLength (at-else c .args .tag .0) (writeBytes (now (at-else c .args .bytes))) ≡ at-else c .args .tag .0 + length (encode (now (at-else c .args .bytes)))
 there c = rw (some-bytes (now (at-else c .args .bytes)) (c .if1 .left))
 
-fits : (c : tie.Else1) → at-else c .args .tag + length (encode (now (at-else c .args .bytes))) ≤ room
+fits : (c : tie.Else1) → at-else c .args .tag .0 + length (encode (now (at-else c .args .bytes))) ≤ room
 fits c = rw (there c) at (at-else c .pre)
 
 counted : (c : tie.After-encoded-len) → c .encoded-len .result .0 ≡ length (encode (now (at-else (c .before) .args .bytes)))
@@ -30,11 +30,8 @@ counted c = omega (arith, c .encoded-len .ensures, length-encode (now (at-else (
 returns : tie.Need-returns
 returns c = rw (length-nil (now (c .before .before .args .bytes)) (c .if1 .taken))
 
-add-result : tie.Need-add-result
-add-result c = omega (arith, counted (c .before), fits (c .before .before))
-
 returns-2 : tie.Need-returns-2
-returns-2 c = rw (there (c .before .before)) (omega (arith, counted (c .before)))
+returns-2 c = rw (there (c .before .before)) (omega (arith, c .plus .ensures, counted (c .before), fits (c .before .before)))
 
 pub bytes-len-spec : {M : Type 1} → statement M
-bytes-len-spec = tie.close (tie.spec returns (λ c κs. search needs) add-result returns-2)
+bytes-len-spec = tie.close (tie.spec returns (λ c κs. search needs) (λ c κs. search needs) returns-2)

@@ -5,13 +5,10 @@ use Rattle.decimal.proofs.DecimalLaws.{length-digits}
 use Rattle.profile.proofs.tagged.decimal_len.Statement.{statement}
 use Rattle.profile.proofs.tagged.decimal_len.Tie as tie
 
-add-result : tie.Need-add-result
-add-result c =
-    let s = c .before .before in
-    omega (arith, c .before .unsigned-len .ensures, length-digits 9 (s .args .n) (omega (arith, s .fits .n .fits)), s .pre)
-
 returns : tie.Need-returns
-returns c = omega (arith, c .before .unsigned-len .ensures)
+returns c =
+    let s = c .before .before in
+    omega (arith, c .plus .ensures, c .before .unsigned-len .ensures, length-digits 9 (s .args .n) (omega (arith, s .fits .n .fits)), s .pre)
 
 pub decimal-len-spec : {M : Type 1} → statement M
-decimal-len-spec = tie.close (tie.spec (λ c κs. search needs) add-result returns)
+decimal-len-spec = tie.close (tie.spec (λ c κs. search needs) (λ c κs. search needs) returns)

@@ -1,13 +1,10 @@
 -- `profile::tagged::put_bytes` meets its contract. Assumes nothing.
-use Prim.Native.Nat.{ℕ, _+_, _≤_}
-use mathlib.Core.List.{List, _++_}
+use mathlib.Core.List.{[], _∷_, _++_}
 use mathlib.Core.Path.{_≡_}
 use native.Mathlib.Omega.{arith}
 use borrow.Author.Needs.{needs}
 use denote.Ref.{now}
-use lib.ListN.{length, length-append}
-use Rattle.text.specs.Place.{outcome, put, Wrote}
-use Rattle.text.proofs.Wrote.{wrote-nothing, wrote-more}
+use Rattle.text.proofs.Wrote.{AllFit, First, More, wrote-nothing, first-room, first-wrote, next-put, chain-sum}
 use Rattle.text.proofs.Lists.{length-nil}
 use Rattle.b64.specs.B64.{encode}
 use Rattle.profile.specs.Fields.{writeBytes}
@@ -23,21 +20,17 @@ at-else c = c .before .before .before .before
 there : (c : tie.Else1) → tagged (now (at-else c .args .tag)) (writeBytes (now (at-else c .args .bytes))) ≡ now (at-else c .args .tag) ++ encode (now (at-else c .args .bytes))
 there c = rw (some-bytes (now (at-else c .args .bytes)) (c .if1 .left))
 
-room : (c : tie.Else1) → length (now (at-else c .args .tag) ++ encode (now (at-else c .args .bytes))) ≤ length (now (at-else c .args .out))
-room c = rw (there c) at (at-else c .pre)
+fits : (c : tie.Else1)
+    → AllFit (now (at-else c .args .out)) (now (at-else c .args .tag)) (encode (now (at-else c .args .bytes)) ∷ [])
+fits c = record { room = rw (there c) at (at-else c .pre); small = omega arith }
 
-abbrev left : tie.After-encode → tie.Else1
-left c = c .before .before .before .before .before .before
+-- what is put after each call
+first : (a : tie.After-put-text) → First (fits (a .before .before)) (a .put-text .last .1 .0) (a .put-text .result .0)
+first a = first-wrote (fits (a .before .before)) (a .put-text .ensures)
 
-wrote : (c : tie.After-encode) (d₁ d₂ : List ℕ)
-    → let s = at-else (left c) in
-    Wrote (now (s .args .tag)) (now (s .args .out)) d₁ (c .before .before .before .before .put-text .result)
-    → outcome (c .encode .result .number) (c .encode .result .count .0) d₂ ≡ put d₁ (c .before .before .before .before .put-text .result) (encode (now (s .args .bytes)))
-    → Wrote (now (s .args .tag) ++ encode (now (s .args .bytes))) (now (s .args .out)) d₂ (c .before .before .before .before .put-text .result + c .encode .result .count .0)
-wrote c d₁ d₂ a e =
-    let s = at-else (left c) in
-    wrote-more (now (s .args .out)) d₁ d₂ (now (s .args .tag)) (encode (now (s .args .bytes))) (c .before .before .before .before .put-text .result) (c .encode .result .number) (c .encode .result .count .0)
-    (room (left c)) a e
+second : (b : tie.After-encode)
+    → More (first (b .before .before .before .before)) (b .encode .last .1 .0) (b .encode .result .count .0)
+second b = next-put (first (b .before .before .before .before)) (b .encode .ensures)
 
 returns : tie.Need-returns
 returns c =
@@ -45,19 +38,15 @@ returns c =
     rw (length-nil (now (s .args .bytes)) (c .if1 .taken)) (wrote-nothing (now (s .args .out)))
 
 put-text-requires : tie.Need-put-text-requires
-put-text-requires c κs =
-    let s = at-else (c .before) in
-    omega (arith, length-append (now (s .args .tag)) (encode (now (s .args .bytes))), room (c .before))
+put-text-requires c κs = first-room (fits (c .before))
 
-add-result : tie.Need-add-result
-add-result c =
-    let w = c .before .before .before in
-    omega (arith, wrote w _ _ (w .before .before .before .before .put-text .ensures) (w .encode .ensures) .count-is, room (left w))
+add-t7 : tie.Need-add-t7
+add-t7 c = chain-sum (second (c .before .before .before))
 
 returns-2 : tie.Need-returns-2
 returns-2 c =
-    let w = c .before .before .before in
-    rw (there (left w)) (wrote w _ _ (w .before .before .before .before .put-text .ensures) (w .encode .ensures))
+    let b = c .before .before .before in
+    rw (there (b .before .before .before .before .before .before)) (second b .wrote)
 
 pub put-bytes-spec : {M : Type 1} → statement M
 put-bytes-spec =
@@ -66,6 +55,6 @@ put-bytes-spec =
     returns
     put-text-requires
     (λ c κs. search needs)
-    add-result
+    add-t7
     (λ c. search needs)
     returns-2)

@@ -1,44 +1,34 @@
 -- `profile::tagged::put_decimal` meets its contract. Assumes nothing.
-use Prim.Native.Nat.{ℕ, _+_}
-use mathlib.Core.List.{List, _++_}
-use mathlib.Core.Path.{_≡_}
+use mathlib.Core.List.{[], _∷_}
 use native.Mathlib.Omega.{arith}
 use borrow.Author.Needs.{needs}
 use denote.Ref.{now}
-use lib.ListN.{length-append}
-use Rattle.text.specs.Place.{outcome, put, Wrote}
-use Rattle.text.proofs.Wrote.{wrote-more}
+use Rattle.text.proofs.Wrote.{AllFit, First, More, first-room, first-wrote, next-put, chain-sum}
 use Rattle.decimal.specs.Decimal.{digits}
 use Rattle.profile.proofs.tagged.put_decimal.Statement.{statement}
 use Rattle.profile.proofs.tagged.put_decimal.Tie as tie
 
-abbrev start : tie.After-write-unsigned → tie.Start
-start c = c .before .before .before .before .before .before .before .before
+-- the texts fit
+fits : (s : tie.Start) → AllFit (now (s .args .out)) (now (s .args .tag)) (digits (s .args .n) ∷ [])
+fits s = record { room = s .pre; small = omega arith }
 
-wrote : (c : tie.After-write-unsigned) (d₁ d₂ : List ℕ)
-    → Wrote (now (start c .args .tag)) (now (start c .args .out)) d₁ (c .before .before .before .before .put-text .result)
-    → outcome (c .write-unsigned .result .number) (c .write-unsigned .result .count .0) d₂ ≡ put d₁ (c .before .before .before .before .put-text .result) (digits (start c .args .n))
-    → Wrote (now (start c .args .tag) ++ digits (start c .args .n)) (now (start c .args .out)) d₂
-    (c .before .before .before .before .put-text .result + c .write-unsigned .result .count .0)
-wrote c d₁ d₂ a e =
-    let s = start c in
-    wrote-more (now (s .args .out)) d₁ d₂ (now (s .args .tag)) (digits (s .args .n)) (c .before .before .before .before .put-text .result) (c .write-unsigned .result .number) (c .write-unsigned .result .count .0)
-    (s .pre) a e
+-- what is put after each call
+first : (a : tie.After-put-text)
+    → First (fits (a .before .before .before .before)) (a .put-text .last .1 .0) (a .put-text .result .0)
+first a = first-wrote (fits (a .before .before .before .before)) (a .put-text .ensures)
+
+second : (b : tie.After-write-unsigned)
+    → More (first (b .before .before .before .before)) (b .write-unsigned .last .1 .0) (b .write-unsigned .result .count .0)
+second b = next-put (first (b .before .before .before .before)) (b .write-unsigned .ensures)
 
 put-text-requires : tie.Need-put-text-requires
-put-text-requires c κs =
-    let s = c .before .before .before in
-    omega (arith, length-append (now (s .args .tag)) (digits (s .args .n)), s .pre)
+put-text-requires c κs = first-room (fits (c .before .before .before))
 
-add-result : tie.Need-add-result
-add-result c =
-    let w = c .before .before .before in
-    omega (arith, wrote w _ _ (w .before .before .before .before .put-text .ensures) (w .write-unsigned .ensures) .count-is, start w .pre)
+add-t12 : tie.Need-add-t12
+add-t12 c = chain-sum (second (c .before .before .before))
 
 returns : tie.Need-returns
-returns c =
-    let w = c .before .before .before in
-    wrote w _ _ (w .before .before .before .before .put-text .ensures) (w .write-unsigned .ensures)
+returns c = second (c .before .before .before) .wrote
 
 pub put-decimal-spec : {M : Type 1} → statement M
 put-decimal-spec =
@@ -46,6 +36,6 @@ put-decimal-spec =
     (tie.spec
     put-text-requires
     (λ c κs. search needs)
-    add-result
+    add-t12
     (λ c. search needs)
     returns)

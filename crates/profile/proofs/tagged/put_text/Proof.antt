@@ -7,7 +7,7 @@ use Rattle.profile.proofs.tagged.put_text.Tie as tie
 
 returns : tie.Need-returns
 returns c =
-    let w = c .before .before in
+    let w = c .before .before .before in
     let s = w .before .before .before .before in
     wrote-start (now (s .args .out)) _ (now (s .args .text)) (w .write-text .result .number) (w .write-text .result .count .0) (s .pre) (w .write-text .ensures)
 

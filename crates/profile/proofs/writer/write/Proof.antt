@@ -53,11 +53,11 @@ string-len-requires c κs = fits-room (fields (at-clear c)) (entry c) (c .before
 
 asked : (c : tie.After-has-room)
     → let s = at-clear (c .before .before) in
-    Asked (now (s .args .buf)) (s .args .at) (formatted editionTwo (fields s)) (c .before .string-len .result) (c .has-room .result)
+    Asked (now (s .args .buf)) (s .args .at) (formatted editionTwo (fields s)) (c .before .string-len .result .0) (c .has-room .result)
 asked c =
     let l = c .before .before in
     let s = at-clear l in
-    string-asked (fields s) (entry l) (l .before .before .column-of .ensures .0) (clear l) (now (s .args .buf)) (s .args .at) (c .before .string-len .result) (c .before .string-len .ensures) (c .has-room .result) (c .has-room .ensures)
+    string-asked (fields s) (entry l) (l .before .before .column-of .ensures .0) (clear l) (now (s .args .buf)) (s .args .at) (c .before .string-len .result .0) (c .before .string-len .ensures) (c .has-room .result) (c .has-room .ensures)
 
 -- what the writer gives where no row applies
 cleared : (c : tie.Else1)

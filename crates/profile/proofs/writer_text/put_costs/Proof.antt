@@ -21,16 +21,16 @@ fits s = record { room = s .pre; small = omega arith }
 
 -- what is put after each call
 first : (a : tie.After-put-number)
-    → First (fits (a .before .before .before .before)) (a .put-number .last .1 .1 .1 .0) (a .put-number .result)
+    → First (fits (a .before .before .before .before)) (a .put-number .last .1 .1 .1 .0) (a .put-number .result .0)
 first a = first-wrote (fits (a .before .before .before .before)) (a .put-number .ensures)
 
 second : (b : tie.After-put-number2)
-    → Next (first (b .before .before .before .before .before)) (b .put-number2 .last .1 .1 .1 .0) (b .put-number2 .result)
+    → Next (first (b .before .before .before .before .before)) (b .put-number2 .last .1 .1 .1 .0) (b .put-number2 .result .0)
 second b = next-wrote (first (b .before .before .before .before .before)) (b .put-number2 .ensures)
 
 third : (c : tie.After-put-number3)
-    → Next (second (c .before .before .before .before .before)) (c .put-number3 .last .1 .1 .1 .0) (c .put-number3 .result)
-third c = next-wrote (second (c .before .before .before .before .before)) (c .put-number3 .ensures)
+    → Next (second (c .before .before .before .before .before .before)) (c .put-number3 .last .1 .1 .1 .0) (c .put-number3 .result .0)
+third c = next-wrote (second (c .before .before .before .before .before .before)) (c .put-number3 .ensures)
 
 put-number-requires : tie.Need-put-number-requires
 put-number-requires c κs = first-room (fits (c .before .before .before))
@@ -45,22 +45,22 @@ put-number-requires-2 : tie.Need-put-number-requires-2
 put-number-requires-2 c κs = next-room (first (c .before .before .before .before)) .1
 
 add-after-t : tie.Need-add-after-t
-add-after-t c = chain-sum (second (c .before .before))
+add-after-t c = chain-sum (second (c .before .before .before))
 
 sub-put-number-2 : tie.Need-sub-put-number-2
-sub-put-number-2 c = next-room (second (c .before .before .before)) .0
+sub-put-number-2 c = next-room (second (c .before .before .before .before)) .0
 
 part-put-number-start-2 : tie.Need-part-put-number-start-2
-part-put-number-start-2 c = next-room (second (c .before .before .before)) .0
+part-put-number-start-2 c = next-room (second (c .before .before .before .before)) .0
 
 put-number-requires-3 : tie.Need-put-number-requires-3
-put-number-requires-3 c κs = next-room (second (c .before .before .before .before)) .1
+put-number-requires-3 c κs = next-room (second (c .before .before .before .before .before)) .1
 
-add-result : tie.Need-add-result
-add-result c = chain-sum (third (c .before .before))
+add-t22 : tie.Need-add-t22
+add-t22 c = chain-sum (third (c .before .before .before))
 
 returns : tie.Need-returns
-returns c = third (c .before .before) .wrote
+returns c = third (c .before .before .before) .wrote
 
 pub put-costs-spec : {M : Type 1} → statement M
 put-costs-spec =
@@ -79,6 +79,6 @@ put-costs-spec =
     part-put-number-start-2
     (λ c. search needs)
     put-number-requires-3
-    add-result
+    add-t22
     (λ c. search needs)
     returns)

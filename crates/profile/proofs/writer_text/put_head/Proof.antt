@@ -20,15 +20,15 @@ fits s = record { room = s .pre; small = omega arith }
 
 -- what is put after each call
 first : (a : tie.After-put-name)
-    → First (fits (a .before .before .before .before .before)) (a .put-name .last .1 .0) (a .put-name .result)
+    → First (fits (a .before .before .before .before .before)) (a .put-name .last .1 .0) (a .put-name .result .0)
 first a = first-wrote (fits (a .before .before .before .before .before)) (a .put-name .ensures)
 
-second : (b : tie.After-put-version) → Next (first (b .before .before .before .before)) (b .put-version .last .1 .0) (b .put-version .result)
+second : (b : tie.After-put-version) → Next (first (b .before .before .before .before)) (b .put-version .last .1 .0) (b .put-version .result .0)
 second b = next-wrote (first (b .before .before .before .before)) (b .put-version .ensures)
 
 third : (c : tie.After-put-params)
-    → Next (second (c .before .before .before .before)) (c .put-params .last .1 .1 .1 .1 .0) (c .put-params .result)
-third c = next-wrote (second (c .before .before .before .before)) (c .put-params .ensures)
+    → Next (second (c .before .before .before .before .before)) (c .put-params .last .1 .1 .1 .1 .0) (c .put-params .result .0)
+third c = next-wrote (second (c .before .before .before .before .before)) (c .put-params .ensures)
 
 put-name-requires : tie.Need-put-name-requires
 put-name-requires c κs = first-room (fits (c .before .before .before .before))
@@ -43,22 +43,22 @@ put-version-requires : tie.Need-put-version-requires
 put-version-requires c κs = next-room (first (c .before .before .before)) .1
 
 add-after-version : tie.Need-add-after-version
-add-after-version c = chain-sum (second (c .before .before))
+add-after-version c = chain-sum (second (c .before .before .before))
 
 sub-put-params : tie.Need-sub-put-params
-sub-put-params c = next-room (second (c .before .before)) .0
+sub-put-params c = next-room (second (c .before .before .before)) .0
 
 part-put-params-start : tie.Need-part-put-params-start
-part-put-params-start c = next-room (second (c .before .before)) .0
+part-put-params-start c = next-room (second (c .before .before .before)) .0
 
 put-params-requires : tie.Need-put-params-requires
-put-params-requires c κs = next-room (second (c .before .before .before)) .1
+put-params-requires c κs = next-room (second (c .before .before .before .before)) .1
 
-add-result : tie.Need-add-result
-add-result c = chain-sum (third (c .before .before))
+add-t15 : tie.Need-add-t15
+add-t15 c = chain-sum (third (c .before .before .before))
 
 returns : tie.Need-returns
-returns c = third (c .before .before) .wrote
+returns c = third (c .before .before .before) .wrote
 
 pub put-head-spec : {M : Type 1} → statement M
 put-head-spec =
@@ -74,6 +74,6 @@ put-head-spec =
     part-put-params-start
     (λ c. search needs)
     put-params-requires
-    add-result
+    add-t15
     (λ c. search needs)
     returns)

@@ -27,19 +27,19 @@ put-items-requires c κs = fits (c .before .before .before .before)
 
 returns : tie.Need-returns
 returns c =
-    let w = c .before .before .before in
-    wrote-none (now (start w .args .out)) _ (items (start w)) (w .put-items .result) (c .if1 .taken) (w .put-items .ensures)
+    let w = c .before .before .before .before in
+    wrote-none (now (start w .args .out)) _ (items (start w)) (w .put-items .result .0) (c .if1 .taken) (w .put-items .ensures)
 
 slice-write-out : tie.Need-slice-write-out
 slice-write-out c =
-    let w = c .before .before .before in
+    let w = c .before .before .before .before in
     let s = start w in
-    omega (arith, c .if1 .left, w .put-items .ensures .count-is, fits s, wrote-length (now (s .args .out)) _ (items s) (w .put-items .result) (fits s) (w .put-items .ensures))
+    omega (arith, c .if1 .left, w .put-items .ensures .count-is, fits s, wrote-length (now (s .args .out)) _ (items s) (w .put-items .result .0) (fits s) (w .put-items .ensures))
 
 returns-2 : tie.Need-returns-2
 returns-2 c =
-    let w = c .before .before .before in
-    wrote-dollar (now (start w .args .out)) _ (items (start w)) (w .put-items .result) (c .if1 .left) (w .put-items .ensures)
+    let w = c .before .before .before .before in
+    wrote-dollar (now (start w .args .out)) _ (items (start w)) (w .put-items .result .0) (c .if1 .left) (w .put-items .ensures)
 
 pub put-params-spec : {M : Type 1} → statement M
 put-params-spec =

@@ -20,16 +20,16 @@ fits s = record { room = s .pre; small = omega arith }
 
 -- what is put after each call
 first : (a : tie.After-put-head)
-    → First (fits (a .before .before .before .before .before .before .before)) (a .put-head .last .1 .1 .1 .1 .0) (a .put-head .result)
+    → First (fits (a .before .before .before .before .before .before .before)) (a .put-head .last .1 .1 .1 .1 .0) (a .put-head .result .0)
 first a = first-wrote (fits (a .before .before .before .before .before .before .before)) (a .put-head .ensures)
 
 second : (b : tie.After-put-bytes)
-    → Next (first (b .before .before .before .before .before)) (b .put-bytes .last .1 .1 .0) (b .put-bytes .result)
+    → Next (first (b .before .before .before .before .before)) (b .put-bytes .last .1 .1 .0) (b .put-bytes .result .0)
 second b = next-wrote (first (b .before .before .before .before .before)) (b .put-bytes .ensures)
 
 third : (c : tie.After-put-bytes2)
-    → Next (second (c .before .before .before .before .before)) (c .put-bytes2 .last .1 .1 .0) (c .put-bytes2 .result)
-third c = next-wrote (second (c .before .before .before .before .before)) (c .put-bytes2 .ensures)
+    → Next (second (c .before .before .before .before .before .before)) (c .put-bytes2 .last .1 .1 .0) (c .put-bytes2 .result .0)
+third c = next-wrote (second (c .before .before .before .before .before .before)) (c .put-bytes2 .ensures)
 
 put-head-requires : tie.Need-put-head-requires
 put-head-requires c κs = first-room (fits (c .before .before .before .before .before .before))
@@ -44,22 +44,22 @@ put-bytes-requires : tie.Need-put-bytes-requires
 put-bytes-requires c κs = next-room (first (c .before .before .before .before)) .1
 
 add-after-salt : tie.Need-add-after-salt
-add-after-salt c = chain-sum (second (c .before .before))
+add-after-salt c = chain-sum (second (c .before .before .before))
 
 sub-put-bytes-2 : tie.Need-sub-put-bytes-2
-sub-put-bytes-2 c = next-room (second (c .before .before .before)) .0
+sub-put-bytes-2 c = next-room (second (c .before .before .before .before)) .0
 
 part-put-bytes-start-2 : tie.Need-part-put-bytes-start-2
-part-put-bytes-start-2 c = next-room (second (c .before .before .before)) .0
+part-put-bytes-start-2 c = next-room (second (c .before .before .before .before)) .0
 
 put-bytes-requires-2 : tie.Need-put-bytes-requires-2
-put-bytes-requires-2 c κs = next-room (second (c .before .before .before .before)) .1
+put-bytes-requires-2 c κs = next-room (second (c .before .before .before .before .before)) .1
 
-add-result : tie.Need-add-result
-add-result c = chain-sum (third (c .before .before))
+add-t20 : tie.Need-add-t20
+add-t20 c = chain-sum (third (c .before .before .before))
 
 returns : tie.Need-returns
-returns c = third (c .before .before) .wrote
+returns c = third (c .before .before .before) .wrote
 
 pub put-string-spec : {M : Type 1} → statement M
 put-string-spec =
@@ -77,6 +77,6 @@ put-string-spec =
     part-put-bytes-start-2
     (λ c. search needs)
     put-bytes-requires-2
-    add-result
+    add-t20
     (λ c. search needs)
     returns)

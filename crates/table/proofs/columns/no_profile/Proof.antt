@@ -1,4 +1,4 @@
--- `table::columns::nobody` meets its contract. Assumes nothing.
+-- `table::columns::no_profile` meets its contract. Assumes nothing.
 use mathlib.Core.Path.{refl}
 use Rattle.grammar.specs.Parts.{partAt}
 use Rattle.table.specs.Limits.{editionTwo}
