@@ -1,4 +1,4 @@
-/* PHC hash strings of the profiles argon2d, argon2i, argon2id, pbkdf2s2 and pbkdf2s3, read and written.
+/* PHC strings of the profiles argon2d, argon2i, argon2id, pbkdf2s2 and pbkdf2s3, read and written.
  *
  * Any bytes may be handed over. Each pointer is valid for its length; NULL with the length 0 is an empty slice. A buffer that is written
  * must not overlap any other argument.
@@ -16,7 +16,7 @@
 extern "C" {
 #endif
 
-/* The bytes that every string of these profiles fits. */
+/* Bytes enough for every string of these profiles. */
 #define PHC_ROOM 265
 
 /* The bytes of a record, and of one with the four counts after it. */
@@ -27,13 +27,19 @@ extern "C" {
 #define PHC_BYTES 152
 
 /* Reads a string. 0, and the first 20 bytes of the record are
- *     kind (1 parameters, 2 salt, 3 hash), id (1 to 5 in the order above), 1 where a version is written and else 0, 0,
- *     version (0 where none is written), m, t, p: 32-bit little-endian numbers.
- * Else 1 to 15, then 17 where the record has fewer than 20 bytes. The record means nothing unless 0 came back. */
+ *      0  kind: 1 parameters, 2 salt, 3 hash
+ *      1  id: 1 to 5 in the order above
+ *      2  1 where a version is written, else 0
+ *      3  0
+ *      4  version, 0 where none is written
+ *      8  m
+ *     12  t
+ *     16  p
+ * from byte 4 on 32-bit little-endian numbers. Else 1 to 15, then 17 where the record has fewer than 20 bytes, and the record is as it was. */
 uint64_t phc_read(const uint8_t *s, size_t s_len, uint8_t *record, size_t record_len);
 
-/* The algorithm version that a string means, for the hasher: a hundred times the version that is written or, for Argon2 where none is
- * written, of 19; 0 for pbkdf2, which has none. Or 1 to 15. */
+/* The algorithm version that a string means, for the hasher, a hundred times: 1600 or 1900 where 16 or 19 is written, 1900 for Argon2 where
+ * none is written, 0 for pbkdf2, which has none. Or 1 to 15. */
 uint64_t phc_algorithm_version(const uint8_t *s, size_t s_len);
 
 /* Each decodes one byte string of a string into the buffer from its start: a hundred times the count (0 where it is absent), or 1 to 15,
@@ -44,14 +50,19 @@ uint64_t phc_salt(const uint8_t *s, size_t s_len, uint8_t *buf, size_t buf_len);
 uint64_t phc_output(const uint8_t *s, size_t s_len, uint8_t *buf, size_t buf_len);
 
 /* Reads a string and decodes its byte strings in one call, for a login. 0, and the first 36 bytes of the record are
- *     the 20 of phc_read, then the counts of keyid, data, salt and output (0 where one is absent): 32-bit little-endian numbers;
- * and keyid, data, salt and output stand one after the other from the buffer's start.
- * Else 1 to 15, then 17 where the record has fewer than 36 bytes or the byte strings don't fit the buffer. 152 bytes are always enough.
- * Record and buffer mean nothing unless 0 came back. */
+ *      0  the 20 of phc_read
+ *     20  count of keyid, 0 where it is absent
+ *     24  count of data
+ *     28  count of salt
+ *     32  count of output
+ * from byte 4 on 32-bit little-endian numbers; and keyid, data, salt and output stand one after the other from the buffer's start.
+ * Else 1 to 15, then 17 where the record has fewer than 36 bytes or the byte strings don't fit the buffer, and both are as they were. 152 bytes
+ * are always enough for the buffer. */
 uint64_t phc_read_all(const uint8_t *s, size_t s_len, uint8_t *record, size_t record_len, uint8_t *buf, size_t buf_len);
 
 /* Writes the one string of the fields into the buffer from its start: a hundred times the count, or 8, 9, 11, 12, 14, 15, 16, then 17.
- * has_version 0: no version, whatever `version` is; 1: that version; any other is 9. An empty salt or output is one that isn't there.
+ * has_version 0: no version, whatever `version` is; 1: that version; any other is 9, or 8 where the id
+ * is unknown. An empty salt or output is one that isn't there.
  * For pbkdf2 m and p are 0 and data is empty. 265 bytes are always enough. It never gives 0.
  * The fields and bytes that phc_read_all gave of a string are written back to exactly that string. */
 uint64_t phc_write(uint8_t id, uint8_t has_version, uint32_t version, uint32_t m, uint32_t t, uint32_t p,

@@ -8,7 +8,7 @@ use Rattle.decimal.proofs.DecimalLaws.{length-digits}
 use Rattle.accounts.specs.Lines.{linesFrom, lines}
 use Rattle.accounts.specs.Listing.{header, rowsFrom, listing}
 use Rattle.accounts.specs.Feeding.{heldOf, leftOf}
-use Rattle.accounts.specs.Claims.{Listings, Rows}
+use Rattle.accounts.specs.Claims.{Listings, RowRoom}
 use Rattle.accounts.proofs.RowLaws.{row-length, kind-length}
 use Rattle.accounts.proofs.CallLaws.{from-plain, held-free, held-none, left-zero, run-left, runs}
 
@@ -21,8 +21,8 @@ listings =
       ends = λ d kept n ps. runs ps d kept n;
     }
 
-pub rows : Rows
-rows =
+pub row-room : RowRoom
+row-room =
     record {
       most = λ n a l k.
           omega (arith, row-length n a, kind-length (a .kind), length-digits 19 n (omega arith), length-digits 2 (a .number) (omega arith));

@@ -20,6 +20,6 @@ pub record Listings : Type 0 where
   -- and there is such a run from every state: with room for each row the calls come to an end
   pub ends : (d : List ℕ) (kept n : ℕ) (ps : List (List ℕ)) → (written : List ℕ) × Calls d kept n 0 ps written
 
--- the room that every row fits
-pub record Rows : Type 0 where
+-- room enough for every row of the listing
+pub record RowRoom : Type 0 where
   pub most : (n : ℕ) (a : Answer) → n ≤ largestLineNumber → a .number ≤ 255 → length (rowText n a) ≤ 36

@@ -17,8 +17,8 @@ use Rattle.accounts.specs.declared.listing.Listed.the-variants.{Row, Use
 abbrev pub mostKept : ℕ
 mostKept = 513
 
--- the bytes of the unfinished line that a state stands for: those kept, up to the first line feed among them. States that the calls make
--- keep no line feed; cutting there gives a state made by hand a meaning too
+-- the bytes of the unfinished line that a state stands for: those kept. Free answer: of a state made by hand those up to the first line feed among
+-- them, and all 513 where it says that more are kept; states that the calls make keep no line feed
 unfoldable pub heldOf : List ℕ → ℕ → List ℕ
 heldOf d kept = cut lineFeed (take kept d) .0
 

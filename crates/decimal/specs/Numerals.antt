@@ -59,6 +59,7 @@ limited malformed = Limited·Malformed
 limited outside = Limited·Outside
 limited (number z) = Value (natAbs z)
 
+-- Free answer: in a range whose low end is past its high end nothing lies, and every decimal is outside
 unfoldable pub limitedReading : ℕ → ℕ → List ℕ → Limited
 limitedReading low high s = limited (numeral (pos low) (pos high) s)
 

@@ -13,9 +13,9 @@ use borrow.Author.Tests.{eqb-true, ne-eqb}
 use Rattle.text.specs.Place.{Outcome, outcome, refused, over, put, putAfter}
 use Rattle.text.proofs.Over.{over-start, length-over}
 use Rattle.text.proofs.Writing.{put-clear, put-refused}
-use Rattle.table.specs.Limits.{editionTwo, room}
+use Rattle.table.specs.Limits.{editionTwo, longestPermitted}
 use Rattle.profile.specs.Fields.{FieldSet, writeBytes}
-use Rattle.profile.specs.Reader.{answer, fieldsOf}
+use Rattle.profile.specs.Reader.{readerNumber, fieldsOf}
 use Rattle.profile.specs.Entries.{kindOf, reading}
 use Rattle.profile.specs.declared.fields.Reading.{Reading}
 use Rattle.profile.proofs.SoundLaws.{edition-two-sound}
@@ -32,18 +32,18 @@ use Rattle.fast_path.proofs.Walked.{walk-agrees}
 -- ---- what the walk says of the rules
 
 -- a string in which nothing is found is refused
-pub not-walked : (s : List ℕ) → walked editionTwo s ≡ none → answer editionTwo s ≡ 0 → ⊥
+pub not-walked : (s : List ℕ) → walked editionTwo s ≡ none → readerNumber editionTwo s ≡ 0 → ⊥
 not-walked s e z =
     let q : _≡_ {A = Option FieldSet} none (some (fieldsOf editionTwo s)) = sym e ∙ walk-agrees editionTwo edition-two-sound s ∙ rw z in
     let n : _≡_ {A = ℕ} 0 1 = cc in
     omega arith
 
 module _ (s : List ℕ) (f : FieldSet) (e : walked editionTwo s ≡ some f) where
-  pub walked-answer : answer editionTwo s ≡ 0
-  walked-answer = go (eqb (answer editionTwo s) 0) refl (sym e ∙ walk-agrees editionTwo edition-two-sound s)
+  pub walked-answer : readerNumber editionTwo s ≡ 0
+  walked-answer = go (eqb (readerNumber editionTwo s) 0) refl (sym e ∙ walk-agrees editionTwo edition-two-sound s)
     where
-      go : (b : Bool) → eqb (answer editionTwo s) 0 ≡ b → some f ≡ cond b (some (fieldsOf editionTwo s)) none → answer editionTwo s ≡ 0
-      go true t q = eqb-true (answer editionTwo s) 0 t
+      go : (b : Bool) → eqb (readerNumber editionTwo s) 0 ≡ b → some f ≡ cond b (some (fieldsOf editionTwo s)) none → readerNumber editionTwo s ≡ 0
+      go true t q = eqb-true (readerNumber editionTwo s) 0 t
       go false t q = let n : _≡_ {A = ℕ} 0 1 = cc in absurd (omega arith)
 
   pub walked-fields : f ≡ fieldsOf editionTwo s
@@ -53,12 +53,12 @@ module _ (s : List ℕ) (f : FieldSet) (e : walked editionTwo s ≡ some f) wher
       cc
 
 -- nothing is found in a string that is longer than any permitted one
-pub walked-long : (s : List ℕ) → room < length s → walked editionTwo s ≡ none
-walked-long s h = walk-agrees editionTwo edition-two-sound s ∙ go (eqb (answer editionTwo s) 0) refl
+pub walked-long : (s : List ℕ) → longestPermitted < length s → walked editionTwo s ≡ none
+walked-long s h = walk-agrees editionTwo edition-two-sound s ∙ go (eqb (readerNumber editionTwo s) 0) refl
   where
-    go : (b : Bool) → eqb (answer editionTwo s) 0 ≡ b → cond b (some (fieldsOf editionTwo s)) none ≡ none
+    go : (b : Bool) → eqb (readerNumber editionTwo s) 0 ≡ b → cond b (some (fieldsOf editionTwo s)) none ≡ none
     go true t =
-        let a = accepted editionTwo edition-two-sound s (eqb-true (answer editionTwo s) 0 t) in
+        let a = accepted editionTwo edition-two-sound s (eqb-true (readerNumber editionTwo s) 0 t) in
         absurd (omega (arith, lengths .any-most (fieldsOf editionTwo s) (a .0), ap length (a .1)))
     go false t = refl
 
@@ -82,7 +82,7 @@ pub all-refused : (s buf : List ℕ) (at : ℕ) → walked editionTwo s ≡ none
     → (c ≡ contents editionTwo s buf at) × (buf ≡ allDecoded editionTwo s buf at .buffer)
 unfolding contents allDecoded
 all-refused s buf at e c r q w =
-    let n = answer editionTwo s in
+    let n = readerNumber editionTwo s in
     let z = not-walked s e in
     let k : r .number ≡ n = ap (λ (x : Reading). x .number) q ∙ reading-number editionTwo s in
     let p : refused n buf ≡ putAfter n buf at (joinedBytes (fieldsOf editionTwo s)) = put-refused buf at (joinedBytes (fieldsOf editionTwo s)) n n refl (omega (arith, z)) in (
@@ -132,7 +132,7 @@ module _ (s out₀ out : List ℕ) (c : Contents) (x : StoredAll (walked edition
       let f = walked-fields s (x .fields) (x .found) in
       let b : take (total c) out ≡ joinedBytes (fieldsOf editionTwo s) =
       ap (λ (y : Contents). take (total y) out) (x .contents-are) ∙ counted-bytes (x .fields) out₀ out (x .stored) .1 ∙ ap joinedBytes f in
-      let p = put-clear buf₀ at (joinedBytes (fieldsOf editionTwo s)) (answer editionTwo s) (walked-answer s (x .fields) (x .found)) in (
+      let p = put-clear buf₀ at (joinedBytes (fieldsOf editionTwo s)) (readerNumber editionTwo s) (walked-answer s (x .fields) (x .found)) in (
         w .answer ∙ rw (p, b) (ap (λ (y : Contents). cond (eqb (put buf₀ at (joinedBytes (fieldsOf editionTwo s)) .number) 0) y (refusedContents (put buf₀ at (joinedBytes (fieldsOf editionTwo s)) .number))) found-contents),
         w .buffer ∙ rw (p, b),
       )

@@ -16,13 +16,13 @@ use Rattle.decimal.specs.declared.reader.Limited.{Limited}
 use Rattle.decimal.specs.declared.reader.Limited.the-variants.{Malformed, Outside, Value}
 use Rattle.grammar.specs.Bytes.{dollar}
 use Rattle.grammar.specs.Rules.{versionReading, isVersion}
-use Rattle.table.specs.Limits.{Profile, fewKilobytes, inRange, idOf, profileOf, isOmitted}
+use Rattle.table.specs.Limits.{Profile, memoryTooLittle, inRange, idOf, profileOf, isOmitted}
 use Rattle.table.specs.declared.limits.NumberRule.{NumberRule}
 use Rattle.table.specs.declared.limits.BytesRule.{BytesRule}
 use Rattle.table.specs.declared.version.Version.{Version}
 use Rattle.table.specs.declared.version.Version.the-variants.{Absent, Number}
-use Rattle.profile.specs.declared.fields.Fields.{Fields}
-use Rattle.fast_path.specs.Walk.{Taken, taken, leadingNumber, writtenNumber, omittedNumber, numberIn, writtenBytes, bytesIn, allowed, versionIn, numbersIn, headIn, withStrings, afterId, walked}
+use Rattle.profile.specs.declared.fields.NumberFields.{NumberFields}
+use Rattle.fast_path.specs.Walk.{Taken, taken, leadingNumber, writtenNumber, omittedNumber, numberIn, writtenBytes, bytesIn, allowed, versionIn, numbersIn, headIn, withStrings, fieldsAfterId, walked}
 
 -- ---- a number
 
@@ -107,11 +107,11 @@ module _ (r : Profile) (k : ℕ) (v : Version) (s : List ℕ) where
       no-p w = rw (e, q, w)
 
       module _ (p c : ℕ) (x : List ℕ) (w : numberIn (r .p) (text "p=") b u ≡ some (taken p c x)) where
-        pub few-kilobytes : fewKilobytes m p ≡ true → numbersIn r k v s ≡ none
+        pub memory-too-little : memoryTooLittle m p ≡ true → numbersIn r k v s ≡ none
         unfolding numbersIn
-        few-kilobytes h = rw (e, q, w, h)
+        memory-too-little h = rw (e, q, w, h)
 
-        pub all-numbers : fewKilobytes m p ≡ false → numbersIn r k v s ≡ some (taken (record { id = k; version = v; m = m; t = n; p = p }) c x)
+        pub all-numbers : memoryTooLittle m p ≡ false → numbersIn r k v s ≡ some (taken (record { id = k; version = v; m = m; t = n; p = p }) c x)
         unfolding numbersIn
         all-numbers h = rw (e, q, w, h)
 
@@ -128,14 +128,14 @@ module _ (r : Profile) (k : ℕ) (s : List ℕ) where
 
   -- ---- the whole
 
-  pub after-unknown : not (r .known) ≡ true → afterId r k s ≡ none
+  pub after-unknown : not (r .known) ≡ true → fieldsAfterId r k s ≡ none
   after-unknown z = rw (is-false (r .known) z)
 
   module _ (z : not (r .known) ≡ false) where
-    pub after-none : headIn r k s ≡ none → afterId r k s ≡ none
+    pub after-none : headIn r k s ≡ none → fieldsAfterId r k s ≡ none
     after-none q = rw (q, is-true (r .known) z)
 
-    pub after-some : (n : Taken Fields) → headIn r k s ≡ some n → afterId r k s ≡ withStrings r n
+    pub after-some : (n : Taken NumberFields) → headIn r k s ≡ some n → fieldsAfterId r k s ≡ withStrings r n
     after-some n q = rw (q, is-true (r .known) z)
 
 pub walked-empty : (e : List Profile) (s : List ℕ) → length s ≡ 0 → walked e s ≡ none
@@ -149,7 +149,7 @@ walked-other e [] h n = refl
 walked-other e (c ∷ s) h n = rw (ne-eqb c 36 n)
 
 pub walked-id : (e : List Profile) (s : List ℕ) (end : ℕ) → (length s ≡ 0 → ⊥) → getD s 0 0 ≡ 36 → end ≡ nextAt 36 s 1
-    → let k = idOf e (take (end - 1) (drop 1 s)) in walked e s ≡ afterId (profileOf e k) k (drop end s)
+    → let k = idOf e (take (end - 1) (drop 1 s)) in walked e s ≡ fieldsAfterId (profileOf e k) k (drop end s)
 unfolding walked
 walked-id e [] end h n q = absurd (h refl)
 walked-id e (c ∷ s) end h n q =

@@ -10,29 +10,29 @@ use Rattle.text.specs.Text.{text, all, empty, find, isByte, startsWith}
 use Rattle.text.proofs.Starts.{starts-is}
 use Rattle.text.proofs.Options.{Holds, holds-then, holds-map, holds-if}
 use Rattle.text.proofs.Lists.{empty-nil}
-use Rattle.table.specs.Limits.{Profile, fewKilobytes, inRange, versionAllowed, idOf, profileOf}
+use Rattle.table.specs.Limits.{Profile, memoryTooLittle, inRange, versionAllowed, idOf, profileOf}
 use Rattle.table.specs.declared.version.Version.{Version}
 use Rattle.profile.specs.Fields.{FieldSet, fieldSet, writeBytes, writeVersion}
 use Rattle.profile.specs.Sound.{soundNumber, sound}
 use Rattle.profile.specs.Writer.{bytesAllowed, OfBytes, Allows, Permitted, formatted}
 use Rattle.profile.specs.PieceTexts.{tagged, piecesText}
-use Rattle.profile.specs.declared.fields.Fields.{Fields}
+use Rattle.profile.specs.declared.fields.NumberFields.{NumberFields}
 use Rattle.profile.proofs.Texts.{formatted-is}
 use Rattle.profile.proofs.Allows.{here}
 use Rattle.profile.proofs.SoundLaws.{SoundColumn, sound-column-at, name-of}
-use Rattle.fast_path.specs.Walk.{Taken, versionIn, numbersIn, Pair, pairIn, keysIn, hashesIn, headIn, afterId, walked}
+use Rattle.fast_path.specs.Walk.{Taken, versionIn, numbersIn, Pair, pairIn, keysIn, hashesIn, headIn, fieldsAfterId, walked}
 use Rattle.fast_path.proofs.ItemTexts.{items, Stands, stands-append, costItems, keyItems, fiveItems, hashesText, restText, pieces-row}
 use Rattle.fast_path.proofs.Stands.{number-then, bytes-then, VersionStands, version-stands}
 
 -- ---- the numbers, and the byte strings two by two
 
-record NumbersStand (r : Profile) (k : ℕ) (v : Version) (s : List ℕ) (x : Taken Fields) : Type 0 where
+record NumbersStand (r : Profile) (k : ℕ) (v : Version) (s : List ℕ) (x : Taken NumberFields) : Type 0 where
   id : x .found .id ≡ k
   version : x .found .version ≡ v
   m : inRange (r .m) (x .found .m) ≡ true
   t : inRange (r .t) (x .found .t) ≡ true
   p : inRange (r .p) (x .found .p) ≡ true
-  lanes : fewKilobytes (x .found .m) (x .found .p) ≡ false
+  lanes : memoryTooLittle (x .found .m) (x .found .p) ≡ false
   stands : Stands 36 (costItems r (x .found)) s (x .separator) (x .rest)
 
 numbers-stand : (r : Profile) (k : ℕ) (v : Version) (s : List ℕ) → soundNumber (r .m) ≡ true → soundNumber (r .t) ≡ true → soundNumber (r .p) ≡ true
@@ -43,7 +43,7 @@ numbers-stand r k v s sm st sp =
     number-then Q (r .m) sm (text "m=") 36 s _ (λ m hm.
     number-then Q (r .t) st (text "t=") (m .separator) (m .rest) _ (λ t ht.
     number-then Q (r .p) sp (text "p=") (t .separator) (t .rest) _ (λ p hp.
-    holds-if Q (fewKilobytes (m .found) (p .found)) _ _ (λ e. tt)
+    holds-if Q (memoryTooLittle (m .found) (p .found)) _ _ (λ e. tt)
     (λ e. record {
       id = refl;
       version = refl;
@@ -109,7 +109,7 @@ hashes-stand r s =
 -- ---- the whole
 
 -- the version and the numbers, of the column r
-record HeadStands (r : Profile) (k : ℕ) (s : List ℕ) (x : Taken Fields) : Type 0 where
+record HeadStands (r : Profile) (k : ℕ) (s : List ℕ) (x : Taken NumberFields) : Type 0 where
   version : versionAllowed (r .versions) (x .found .version) ≡ true
   middle : List ℕ
   here : s ≡ tagged (text "$") (writeVersion (x .found .version)) ++ middle
@@ -140,7 +140,7 @@ found e s f r q k b t =
 
 module _ (e : List Profile) (ok : sound e ≡ true) where
   -- what is found behind the name of an id
-  after-id-stands : (s name u : List ℕ) → s ≡ (36 ∷ name) ++ u → Holds (Found e s) (afterId (profileOf e (idOf e name)) (idOf e name) u)
+  after-id-stands : (s name u : List ℕ) → s ≡ (36 ∷ name) ++ u → Holds (Found e s) (fieldsAfterId (profileOf e (idOf e name)) (idOf e name) u)
   after-id-stands s name u q =
       let k = idOf e name in
       let r = profileOf e k in
@@ -167,7 +167,7 @@ module _ (e : List Profile) (ok : sound e ≡ true) where
         «data» = hy .«data»;
         salt = hh .salt;
         output = hh .output;
-        order = hh .order;
+        output-with-salt = hh .order;
       }
       ) (hy .keyid-bytes, hy .data-bytes, hh .salt-bytes, hh .output-bytes)
       (pieces-row r f ∙ ap (λ (x : List ℕ). 36 ∷ (x ++ restText r f)) (name-of e name known) ∙ ap (λ (x : List ℕ). 36 ∷ (name ++ x)) (sym same-rest) ∙ sym q)) (λ z. tt))))) (λ z. tt)

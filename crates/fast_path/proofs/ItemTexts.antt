@@ -13,7 +13,7 @@ use Rattle.grammar.specs.Pieces.{OptionalText}
 use Rattle.table.specs.Limits.{Profile}
 use Rattle.profile.specs.Fields.{FieldSet, writeNumber, writeBytes, writeVersion}
 use Rattle.profile.specs.PieceTexts.{tagged, itemsText, dollared, piecesText}
-use Rattle.profile.specs.declared.fields.Fields.{Fields}
+use Rattle.profile.specs.declared.fields.NumberFields.{NumberFields}
 use Rattle.fast_path.proofs.Closed.{Separator, Closed}
 
 -- a name with its equals sign, and the text that stands behind it
@@ -128,7 +128,7 @@ starts-fresh a b name l rest h e = go l (q .1)
 
 -- ---- the writer's string
 
-abbrev pub costItems : Profile → Fields → List Named
+abbrev pub costItems : Profile → NumberFields → List Named
 costItems r n =
     (text "m=", writeNumber (r .m) (n .m))
     ∷ (text "t=", writeNumber (r .t) (n .t))
@@ -138,7 +138,7 @@ costItems r n =
 abbrev pub keyItems : List ℕ → List ℕ → List Named
 keyItems keyid «data» = (text "keyid=", writeBytes keyid) ∷ (text "data=", writeBytes «data») ∷ []
 
-abbrev pub fiveItems : Profile → Fields → List ℕ → List ℕ → List Named
+abbrev pub fiveItems : Profile → NumberFields → List ℕ → List ℕ → List Named
 fiveItems r n keyid «data» = costItems r n ++ keyItems keyid «data»
 
 abbrev pub hashesText : List ℕ → List ℕ → List ℕ
@@ -150,7 +150,7 @@ restText r f =
     tagged (text "$") (writeVersion (f .numbers .version))
     ++ items 36 (fiveItems r (f .numbers) (f .keyid) (f .«data»)) (hashesText (f .salt) (f .output))
 
-five : (r : Profile) (n : Fields) (keyid «data» : List ℕ) → itemsText r n keyid «data» ≡ items 44 (fiveItems r n keyid «data») []
+five : (r : Profile) (n : NumberFields) (keyid «data» : List ℕ) → itemsText r n keyid «data» ≡ items 44 (fiveItems r n keyid «data») []
 five r n keyid «data» = simp (comma, append-assoc, append-nil)
 
 row : (a b c d e : List ℕ) → a ++ b ++ c ++ d ++ e ≡ a ++ (b ++ (c ++ (d ++ (e ++ []))))

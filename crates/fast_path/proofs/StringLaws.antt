@@ -23,7 +23,7 @@ use Rattle.table.specs.Limits.{Profile, isSize, noProfile, profileOf, editionTw
 use Rattle.table.specs.declared.limits.BytesRule.{BytesRule}
 use Rattle.table.specs.declared.limits.BytesRule.the-variants.{Sized, Forbidden}
 use Rattle.profile.specs.Fields.{FieldSet, fieldSet}
-use Rattle.profile.specs.declared.fields.Fields.{Fields}
+use Rattle.profile.specs.declared.fields.NumberFields.{NumberFields}
 use Rattle.fast_path.specs.Walk.{Taken, taken, writtenBytes, bytesIn, Pair, pairIn, keysIn, hashesIn, withStrings}
 use Rattle.fast_path.specs.WalkSteps.{textAt, bytesAt, Ran, most, Stored, StoredTwo, contentsFor, roomy, StoredAll}
 use Rattle.fast_path.specs.Claims.{mostBytes}
@@ -143,7 +143,7 @@ no-strings a a-name b b-name separator s at out from h f e =
 
 -- ---- all four
 
-module _ (r : Profile) (f : Fields) (separator : ℕ) (s : List ℕ) (at : ℕ) (out₀ : List ℕ) where
+module _ (r : Profile) (f : NumberFields) (separator : ℕ) (s : List ℕ) (at : ℕ) (out₀ : List ℕ) where
   pub no-keys : keysIn r separator (drop at s) ≡ none → withStrings r (taken f separator (drop at s)) ≡ none
   no-keys e = rw e
 

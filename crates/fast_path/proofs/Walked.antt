@@ -17,7 +17,7 @@ use Rattle.grammar.specs.Bytes.{isNameByte, isValueByte}
 use Rattle.grammar.proofs.ItemLaws.{name-free}
 use Rattle.table.specs.Limits.{Profile}
 use Rattle.profile.specs.Fields.{FieldSet, writeNumber, writeBytes, writeVersion}
-use Rattle.profile.specs.Reader.{answer, fieldsOf}
+use Rattle.profile.specs.Reader.{readerNumber, fieldsOf}
 use Rattle.profile.specs.Sound.{sound}
 use Rattle.profile.specs.Writer.{Permitted, formatted}
 use Rattle.profile.specs.PieceTexts.{tagged}
@@ -26,7 +26,7 @@ use Rattle.profile.proofs.Allows.{here}
 use Rattle.profile.proofs.SoundLaws.{SoundColumn, sound-column-at}
 use Rattle.profile.proofs.Written.{written}
 use Rattle.profile.proofs.Accepted.{accepted}
-use Rattle.fast_path.specs.Walk.{taken, versionIn, numbersIn, pairIn, keysIn, hashesIn, headIn, afterId, walked, WalkAgrees}
+use Rattle.fast_path.specs.Walk.{taken, versionIn, numbersIn, pairIn, keysIn, hashesIn, headIn, fieldsAfterId, walked, WalkAgrees}
 use Rattle.fast_path.proofs.Closed.{Separator}
 use Rattle.fast_path.proofs.ItemTexts.{Named, separatorAfter, items, separators, begins-tagged, begins-items, separator-after, separators-separator, Behind, starts-fresh, costItems, keyItems, fiveItems, hashesText, restText, pieces-row}
 use Rattle.fast_path.proofs.Taken.{encode-alphabet, bytes-reads, version-reads, number-item, bytes-item}
@@ -129,11 +129,11 @@ module _ (e : List Profile) (f : FieldSet) (E : SoundColumn e (f .numbers .id) (
       let b = P .bytes in
       let o = tagged (text "$") (writeBytes (f .output)) ++ [] in
       rw (
-        bytes-reads (r .salt) (f .salt) [] 36 o (P .column .salt) (b .2) (begins-tagged Separator 36 [] (writeBytes (f .output)) [] dollar tt) (no-dollar (f .salt) (f .output) (P .column .order)),
+        bytes-reads (r .salt) (f .salt) [] 36 o (P .column .salt) (b .2) (begins-tagged Separator 36 [] (writeBytes (f .output)) [] dollar tt) (no-dollar (f .salt) (f .output) (P .column .output-with-salt)),
         bytes-reads (r .output) (f .output) [] 36 [] (P .column .output) (b .3) tt (λ z. refl),
       )
 
-  rest-read : afterId (here e f) (f .numbers .id) (restText (here e f) f) ≡ some f
+  rest-read : fieldsAfterId (here e f) (f .numbers .id) (restText (here e f) f) ≡ some f
   unfolding headIn
   rest-read = rw (P .column .id, version-read, numbers-read, keys-read, hashes-read)
 
@@ -156,22 +156,22 @@ module _ (e : List Profile) (ok : sound e ≡ true) where
       let r = here e f in
       ap (walked e) (formatted-is e f ∙ pieces-row r f) ∙ string-read e f (sound-column-at e ok (f .numbers .id) (P .column .id)) P
 
-  pub walk-complete : (s : List ℕ) → answer e s ≡ 0 → walked e s ≡ some (fieldsOf e s)
+  pub walk-complete : (s : List ℕ) → readerNumber e s ≡ 0 → walked e s ≡ some (fieldsOf e s)
   walk-complete s z =
       let a = accepted e ok s z in
       ap (walked e) (sym (a .1)) ∙ walk-written (fieldsOf e s) (a .0)
 
   -- nothing is found in a string that is not accepted
-  walk-refuses : (s : List ℕ) (o : Option FieldSet) → walked e s ≡ o → eqb (answer e s) 0 ≡ false → o ≡ none
+  walk-refuses : (s : List ℕ) (o : Option FieldSet) → walked e s ≡ o → eqb (readerNumber e s) 0 ≡ false → o ≡ none
   walk-refuses s none q z = refl
   walk-refuses s (some f) q z =
       let h = walk-sound e ok s f q in
-      let a = ap (answer e) (sym (h .1)) ∙ written e ok f (h .0) .0 in
-      absurd (true≢false (sym (eq-eqb (answer e s) 0 a) ∙ z))
+      let a = ap (readerNumber e) (sym (h .1)) ∙ written e ok f (h .0) .0 in
+      absurd (true≢false (sym (eq-eqb (readerNumber e s) 0 a) ∙ z))
 
   pub walk-agrees : WalkAgrees e
-  walk-agrees s = go (eqb (answer e s) 0) refl
+  walk-agrees s = go (eqb (readerNumber e s) 0) refl
     where
-      go : (b : Bool) → eqb (answer e s) 0 ≡ b → walked e s ≡ cond b (some (fieldsOf e s)) none
-      go true z = walk-complete s (eqb-true (answer e s) 0 z)
+      go : (b : Bool) → eqb (readerNumber e s) 0 ≡ b → walked e s ≡ cond b (some (fieldsOf e s)) none
+      go true z = walk-complete s (eqb-true (readerNumber e s) 0 z)
       go false z = walk-refuses s (walked e s) refl z

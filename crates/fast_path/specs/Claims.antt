@@ -5,7 +5,7 @@ use mathlib.Core.Path.{_≡_}
 use mathlib.Core.List.{List}
 use lib.ListN.{length}
 use Rattle.table.specs.Limits.{editionTwo}
-use Rattle.profile.specs.Reader.{answer, fieldsOf}
+use Rattle.profile.specs.Reader.{readerNumber, fieldsOf}
 use Rattle.fast_path.specs.Contents.{joinedBytes}
 use Rattle.fast_path.specs.Walk.{WalkAgrees}
 
@@ -17,4 +17,4 @@ pub record FastPathAgrees : Type 0 where
   -- the walk finds the fields of every accepted string, and nothing in any other
   pub agrees : WalkAgrees editionTwo
   -- so many bytes of room are enough for the byte strings of every accepted string
-  pub room : (s : List ℕ) → answer editionTwo s ≡ 0 → length (joinedBytes (fieldsOf editionTwo s)) ≤ mostBytes
+  pub room : (s : List ℕ) → readerNumber editionTwo s ≡ 0 → length (joinedBytes (fieldsOf editionTwo s)) ≤ mostBytes

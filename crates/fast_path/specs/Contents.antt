@@ -9,7 +9,7 @@ use lib.ListN.{length}
 use Rattle.text.specs.Place.{Outcome, putAfter}
 use Rattle.table.specs.Limits.{Profile}
 use Rattle.profile.specs.Fields.{FieldSet}
-use Rattle.profile.specs.Reader.{answer, fieldsOf}
+use Rattle.profile.specs.Reader.{readerNumber, fieldsOf}
 use Rattle.profile.specs.Entries.{refusedReading, reading}
 use Rattle.profile.specs.declared.fields.Reading.{Reading}
 use Rattle.fast_path.specs.declared.contents.Contents.{Contents}
@@ -39,7 +39,7 @@ refusedContents n =
     }
 
 unfoldable pub allDecoded : List Profile → List ℕ → List ℕ → ℕ → Outcome
-allDecoded e s buffer at = putAfter (answer e s) buffer at (joinedBytes (fieldsOf e s))
+allDecoded e s buffer at = putAfter (readerNumber e s) buffer at (joinedBytes (fieldsOf e s))
 
 unfoldable pub contents : List Profile → List ℕ → List ℕ → ℕ → Contents
 contents e s buffer at =

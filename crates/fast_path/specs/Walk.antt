@@ -13,14 +13,14 @@ use Rattle.b64.specs.B64.{inAlphabet, canonical, decode}
 use Rattle.decimal.specs.Decimal.{isDigit, isUnsigned, value}
 use Rattle.grammar.specs.Bytes.{dollar, comma}
 use Rattle.grammar.specs.Rules.{isVersion}
-use Rattle.table.specs.Limits.{Profile, inRange, fewKilobytes, isSize, versionAllowed, idOf, profileOf, largest32, misplacedNumber, defaultOf, isOmitted}
+use Rattle.table.specs.Limits.{Profile, inRange, memoryTooLittle, isSize, versionAllowed, idOf, profileOf, largest32, isRequired, defaultOf, isOmitted}
 use Rattle.table.specs.declared.limits.NumberRule.{NumberRule}
 use Rattle.table.specs.declared.limits.BytesRule.{BytesRule}
 use Rattle.table.specs.declared.version.Version.{Version}
 use Rattle.table.specs.declared.version.Version.the-variants.{Absent}
 use Rattle.profile.specs.Fields.{FieldSet, fieldSet, readVersion}
-use Rattle.profile.specs.Reader.{answer, fieldsOf}
-use Rattle.profile.specs.declared.fields.Fields.{Fields}
+use Rattle.profile.specs.Reader.{readerNumber, fieldsOf}
+use Rattle.profile.specs.declared.fields.NumberFields.{NumberFields}
 
 -- what was taken, the separator that stands before the next item, `$` before the first and a comma before the others, and the text after it
 pub record Taken (A : Type 0) : Type 0 where
@@ -43,7 +43,7 @@ writtenNumber r x = cond (inRange r (x .0) && not (isOmitted r (x .0))) (some (t
 
 -- a number that doesn't stand in the string
 abbrev pub omittedNumber : NumberRule → ℕ → List ℕ → Option (Taken ℕ)
-omittedNumber r separator t = cond (misplacedNumber r none) none (some (taken (defaultOf r) separator t))
+omittedNumber r separator t = cond (isRequired r) none (some (taken (defaultOf r) separator t))
 
 -- a number after its separator and its name, or left out
 unfoldable pub numberIn : NumberRule → List ℕ → ℕ → List ℕ → Option (Taken ℕ)
@@ -79,12 +79,12 @@ versionIn vs t =
 
 -- ---- m, t and p, and m at least 8p
 
-unfoldable pub numbersIn : Profile → ℕ → Version → List ℕ → Option (Taken Fields)
+unfoldable pub numbersIn : Profile → ℕ → Version → List ℕ → Option (Taken NumberFields)
 numbersIn r k v s =
     andThen (numberIn (r .m) (text "m=") dollar s) (λ (m : Taken ℕ).
     andThen (numberIn (r .t) (text "t=") (m .separator) (m .rest)) (λ (t : Taken ℕ).
     andThen (numberIn (r .p) (text "p=") (t .separator) (t .rest)) (λ (p : Taken ℕ).
-    cond (fewKilobytes (m .found) (p .found)) none
+    cond (memoryTooLittle (m .found) (p .found)) none
     (some (taken (record { id = k; version = v; m = m .found; t = t .found; p = p .found }) (p .separator) (p .rest))))))
 
 -- ---- the four byte strings, up to the end
@@ -107,7 +107,7 @@ abbrev pub hashesIn : Profile → List ℕ → Option (Taken Pair)
 hashesIn r s = pairIn (r .salt) [] (r .output) [] true dollar s
 
 -- nothing is left after them
-abbrev pub withStrings : Profile → Taken Fields → Option FieldSet
+abbrev pub withStrings : Profile → Taken NumberFields → Option FieldSet
 withStrings r n =
     andThen (keysIn r (n .separator) (n .rest)) (λ (k : Taken Pair).
     andThen (hashesIn r (k .rest)) (λ (h : Taken Pair).
@@ -116,19 +116,19 @@ withStrings r n =
 -- ---- the whole
 
 -- version and numbers after the id with the number k
-unfoldable pub headIn : Profile → ℕ → List ℕ → Option (Taken Fields)
+unfoldable pub headIn : Profile → ℕ → List ℕ → Option (Taken NumberFields)
 headIn r k s = andThen (versionIn (r .versions) s) (λ (v : Taken Version). numbersIn r k (v .found) (v .rest))
 
-abbrev pub afterId : Profile → ℕ → List ℕ → Option FieldSet
-afterId r k s = cond (r .known) (andThen (headIn r k s) (withStrings r)) none
+abbrev pub fieldsAfterId : Profile → ℕ → List ℕ → Option FieldSet
+fieldsAfterId r k s = cond (r .known) (andThen (headIn r k s) (withStrings r)) none
 
 -- the fields that a string says, where it is written as the writer writes them
 unfoldable pub walked : List Profile → List ℕ → Option FieldSet
 walked e s =
     let t = drop 1 s in
     let k = idOf e (take (find dollar t) t) in
-    cond (startsWith (text "$") s) (afterId (profileOf e k) k (drop (find dollar t) t)) none
+    cond (startsWith (text "$") s) (fieldsAfterId (profileOf e k) k (drop (find dollar t) t)) none
 
 -- the walk finds the fields of each accepted string, and nothing in any other
 abbrev pub WalkAgrees : List Profile → Type 0
-WalkAgrees e = (s : List ℕ) → walked e s ≡ cond (eqb (answer e s) 0) (some (fieldsOf e s)) none
+WalkAgrees e = (s : List ℕ) → walked e s ≡ cond (eqb (readerNumber e s) 0) (some (fieldsOf e s)) none

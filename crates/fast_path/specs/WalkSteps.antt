@@ -18,7 +18,7 @@ use Rattle.table.specs.declared.limits.BytesRule.{BytesRule}
 use Rattle.table.specs.declared.limits.BytesRule.the-variants.{Sized, Forbidden}
 use Rattle.table.specs.declared.version.Version.{Version}
 use Rattle.profile.specs.Fields.{FieldSet}
-use Rattle.profile.specs.declared.fields.Fields.{Fields}
+use Rattle.profile.specs.declared.fields.NumberFields.{NumberFields}
 use Rattle.fast_path.specs.Contents.{joinedBytes, refusedContents}
 use Rattle.fast_path.specs.Walk.{Taken, taken, leadingNumber, Pair}
 use Rattle.fast_path.specs.declared.contents.Contents.{Contents}
@@ -62,7 +62,7 @@ abbrev pub VersionIs : Option (Taken Version) → List ℕ → VersionItem → T
 VersionIs o s VersionItem·No = o ≡ none
 VersionIs o s (VersionItem·Is v next) = (o ≡ some (taken v dollar (drop next s))) × (next ≤ length s)
 
-abbrev pub HeadIs : Option (Taken Fields) → List ℕ → Head → Type 0
+abbrev pub HeadIs : Option (Taken NumberFields) → List ℕ → Head → Type 0
 HeadIs o s Head·No = o ≡ none
 HeadIs o s (Head·Is f next separator) = (o ≡ some (taken f separator (drop next s))) × (next ≤ length s)
 
@@ -153,7 +153,7 @@ TwoAre o high s out₀ from out (Two·To next middle end) = StoredTwo o high s o
 abbrev pub kindFor : ℕ → ℕ → ℕ
 kindFor salt output = cond (eqb output 0) (cond (eqb salt 0) 1 2) 3
 
-abbrev pub contentsFor : Fields → ℕ → ℕ → ℕ → ℕ → Contents
+abbrev pub contentsFor : NumberFields → ℕ → ℕ → ℕ → ℕ → Contents
 contentsFor f keyid «data» salt output =
     record {
       reading = record { number = 0; kind = kindFor salt output; fields = f };

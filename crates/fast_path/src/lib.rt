@@ -1,5 +1,5 @@
-// The fast path: a good string is read in one walk, from its first byte to its last; any other goes to the profile's reader. What
-// they give is the profile's own answer.
+// The fast path: an accepted string is read in one walk, from its first byte to its last; any other goes to the profile's reader. The answer is
+// the profile's own.
 mod begin;
 pub mod contents;
 mod items;

@@ -1,10 +1,10 @@
-// The profile reader, and all that a string carries in one call: the fast path for good strings, the profile's reader for the others.
+// The profile reader, and all that a string carries in one call: the fast path for accepted strings, the profile's reader for the others.
 use crate::contents::Contents;
 use crate::walk::BUFFER_LEN;
 use crate::walk::Walk;
 use crate::walk::walk_string;
 use b64::alphabet::SEXTETS;
-use profile::fields::Fields;
+use profile::fields::NumberFields;
 use profile::fields::Reading;
 use table::version::Version;
 use text::place::write_text;
@@ -49,7 +49,7 @@ fn refused(number: u8) -> Contents
         reading: Reading {
             number,
             kind: 0,
-            fields: Fields {
+            fields: NumberFields {
                 id: 0,
                 version: Version::Absent,
                 m: 0,

@@ -8,14 +8,14 @@ use crate::strings::two_items;
 use crate::strings::two_keys;
 use decimal::reader::Limited;
 use grammar::version::version_number;
-use profile::fields::Fields;
+use profile::fields::NumberFields;
 use profile::fields::Reading;
-use table::bounds::few_kilobytes;
+use table::bounds::memory_too_little;
 use table::bounds::version_allowed;
 use table::columns::column_of;
 use table::ids::id_number;
 use table::limits::Column;
-use table::limits::ROOM;
+use table::limits::LONGEST_PERMITTED;
 use table::limits::Versions;
 use table::version::Version;
 use text::scan::next_at;
@@ -27,7 +27,7 @@ ghost use lib.ListN.{length, drop};
 ghost use Rattle.b64.specs.B64.{Sextets};
 ghost use Rattle.table.specs.Limits.{editionTwo};
 ghost use Rattle.table.specs.Columns.{listed, profileIn};
-ghost use Rattle.fast_path.specs.Walk.{taken, allowed as allowedVersion, versionIn, numbersIn, headIn, withStrings, afterId, walked};
+ghost use Rattle.fast_path.specs.Walk.{taken, allowed as allowedVersion, versionIn, numbersIn, headIn, withStrings, fieldsAfterId, walked};
 ghost use Rattle.fast_path.specs.WalkSteps.{VersionIs, HeadIs, kindFor, contentsFor, roomy, bufferLength, FoundIn};
 
 // Room for the four byte strings of any profile, and for the decoder's test of it.
@@ -42,7 +42,7 @@ pub enum VersionItem {
 // The number fields, the place after them, and the separator before the next item.
 pub enum Head {
     No,
-    Is(Fields, usize, u8),
+    Is(NumberFields, usize, u8),
 }
 
 // What the walk found; nothing where the string is no good one.
@@ -104,11 +104,11 @@ fn numbers(column: Column, id: u8, version: Version, s: &[u8], at: usize) -> Hea
             ) {
                 NumberItem::No => Head::No,
                 NumberItem::Is(p, next, separator) => {
-                    if few_kilobytes(m, p) {
+                    if memory_too_little(m, p) {
                         return Head::No;
                     }
                     Head::Is(
-                        Fields {
+                        NumberFields {
                             id,
                             version,
                             m,
@@ -150,7 +150,7 @@ fn kind_for(salt: usize, output: usize) -> u8
 
 // The answer for fields whose byte strings end at these places in their buffer.
 fn contents_for(
-    fields: Fields,
+    fields: NumberFields,
     keyid_end: usize,
     data_end: usize,
     salt_end: usize,
@@ -176,7 +176,7 @@ fn contents_for(
 fn with_strings(
     table: &[u8; 256],
     column: Column,
-    fields: Fields,
+    fields: NumberFields,
     s: &[u8],
     at: usize,
     separator: u8,
@@ -221,7 +221,7 @@ fn with_strings(
 fn after_id(table: &[u8; 256], column: Column, id: u8, s: &[u8], at: usize, out: &mut [u8]) -> Walk
     requires { ⌜ (at ≤ length (now s)) × (roomy (profileIn column) ≤ length (now out)) ⌝ }
     requires { ⌜ Sextets (now table) ⌝ }
-    ensures { λ r. ⌜ FoundIn (afterId (profileIn column) id (drop at (now (s .entry)))) (now (out .entry)) (now (out .exit)) r ⌝ }
+    ensures { λ r. ⌜ FoundIn (fieldsAfterId (profileIn column) id (drop at (now (s .entry)))) (now (out .entry)) (now (out .exit)) r ⌝ }
 {
     if !column.known {
         return Walk::Nothing;
@@ -240,7 +240,7 @@ fn after_id(table: &[u8; 256], column: Column, id: u8, s: &[u8], at: usize, out:
     }
 }
 
-// The fields of a good string, with their byte strings, one after the other, from the start of `out`. Of a string that is longer than any
+// The fields of an accepted string, with their byte strings, one after the other, from the start of `out`. Of a string that is longer than any
 // permitted one nothing is read.
 pub fn walk_string(table: &[u8; 256], s: &[u8], out: &mut [u8]) -> Walk
     requires { ⌜ bufferLength ≤ length (now out) ⌝ }
@@ -250,7 +250,7 @@ pub fn walk_string(table: &[u8; 256], s: &[u8], out: &mut [u8]) -> Walk
     if s.len() == 0 {
         return Walk::Nothing;
     }
-    if ROOM < s.len() {
+    if LONGEST_PERMITTED < s.len() {
         return Walk::Nothing;
     }
     if s[0] != b'$' {

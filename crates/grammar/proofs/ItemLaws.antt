@@ -9,7 +9,7 @@ use native.Mathlib.Omega.{arith}
 use borrow.Author.Tests.{le-leb}
 use lib.Dec.{leb, eqb}
 use lib.ListN.{length, getD, take, drop}
-use Rattle.text.specs.Text.{text, within, all, has, same, empty, Parts, find, split, join, cut, Frees}
+use Rattle.text.specs.Text.{text, within, all, has, same, empty, Parts, find, split, join, cut, NoneHas}
 use Rattle.text.proofs.Tests.{both}
 use Rattle.text.proofs.Lists.{not-in, has-append, join-split, split-join, cut-join, join-cut}
 use Rattle.text.proofs.Splitting.{from-to, from-zero}
@@ -107,7 +107,7 @@ module _ (d : ℕ) (n : isNameByte d ≡ false) (v : isValueByte d ≡ false) wh
     item-free i e =
         has-append d (i .0) (equals ∷ i .1) (name-free (i .0) (item-name i e)) (rw q (value-free (i .1) (item-value i e)))
 
-    pub items-free : (is : List Item) → all isItem is ≡ true → Frees d (map itemText is)
+    pub items-free : (is : List Item) → all isItem is ≡ true → NoneHas d (map itemText is)
     items-free [] e = tt
     items-free (i ∷ is) e =
         let k = both (isItem i) (all isItem is) e in

@@ -1,20 +1,21 @@
--- What is proved of the definitions, over every text: proofs/Claims.antt has a value of `PieceClaims`.
+-- What is proved of the definitions, over every text: proofs/Claims.antt has a value of `PieceClaims` and of `GrammarRefusals`.
 -- Assumes nothing.
 use Prim.Native.Nat.{ℕ, _+_, _*_, _-_, _≤_, _<_}
 use mathlib.Core.Path.{_≡_}
 use mathlib.Core.Bool.{true, false}
 use mathlib.Core.List.{List, [], _∷_, _++_}
 use mathlib.Core.Option.{some}
+use mathlib.Core.Logic.{_≢_}
 use lib.ListN.{length, replicate}
-use Rattle.text.specs.Text.{text, has, all, split, join, Frees, Fits, listOf}
+use Rattle.text.specs.Text.{text, within, has, all, split, join, NoneHas, Fits, listOf}
 use Rattle.text.specs.Rows.{firstOf}
 use Rattle.grammar.specs.Bytes.{dollar, comma, equals}
 use Rattle.grammar.specs.Limits.{longestName, longestValue, longestOutput, mostItems, longestString}
 use Rattle.grammar.specs.Pieces.{Pieces, belongs, pieces, pieceIn, afterId, string}
 use Rattle.grammar.specs.Items.{Item, items, itemsOf, paramsText}
 use Rattle.grammar.specs.Rules.{isItem, beginsWithDollar, pieceRows, grammarNumber}
-use Rattle.grammar.specs.Layout.{placesOf, spanOf}
-use Rattle.grammar.specs.Parts.{partAt, textOf}
+use Rattle.grammar.specs.Layout.{placesOf, spanOf, refusedLayout, layout}
+use Rattle.grammar.specs.Parts.{partAt, textOf, pieceText, itemAt}
 use Rattle.grammar.specs.declared.places.Piece.{Piece}
 use Rattle.grammar.specs.declared.places.Piece.the-variants.{Version, Params, Salt, Output}
 
@@ -25,7 +26,7 @@ pub record Sorts (p : Pieces) : Type 0 where
   pub salt-fits : Fits (belongs Salt) (p .salt) (listOf (p .output) ++ p .more)
   pub output-fits : Fits (belongs Output) (p .output) (p .more)
   pub id-free : has dollar (p .id) ≡ false
-  pub others-free : Frees dollar (afterId p)
+  pub others-free : NoneHas dollar (afterId p)
 
 -- 32 `a`; an item of 32 `a` and 128 `b`
 abbrev longName : List ℕ
@@ -48,7 +49,7 @@ pub record PieceClaims : Type 0 where
   -- joining the pieces with `$` gives the string back
   pub string-pieces : (s : List ℕ) → beginsWithDollar s ≡ true → string (pieces s) ≡ s
   -- splitting joined parts without the separator gives the parts back
-  pub split-join : (d : ℕ) (p : List ℕ) (ps : List (List ℕ)) → has d p ≡ false → Frees d ps → split d (join d p ps) ≡ (p, ps)
+  pub split-join : (d : ℕ) (p : List ℕ) (ps : List (List ℕ)) → has d p ≡ false → NoneHas d ps → split d (join d p ps) ≡ (p, ps)
   -- pieces that sort as they stand are the pieces of their string
   pub pieces-string : (p : Pieces) → Sorts p → pieces (string p) ≡ p
   -- a parameter piece that keeps its rule is the piece of its items, and items that keep theirs are the items of their piece
@@ -66,3 +67,9 @@ pub record PieceClaims : Type 0 where
   -- and is reached
   pub longest-length : length longest ≡ longestString
   pub longest-accepted : grammarNumber longest ≡ 0
+
+-- what a refusal is: of the grammar reader 1 to 7, with zeros for places, lengths and items; of the entries for parts an empty one
+pub record GrammarRefusals : Type 0 where
+  pub read : (s : List ℕ) → layout s .number ≢ 0 → (within 1 7 (layout s .number) ≡ true) × (layout s ≡ refusedLayout (layout s .number))
+  pub piece : (s : List ℕ) → layout s .number ≢ 0 → (w : Piece) → pieceText s w ≡ []
+  pub item : (s : List ℕ) → layout s .number ≢ 0 → (index : ℕ) → itemAt s index ≡ ([], [])

@@ -14,7 +14,8 @@ use Rattle.grammar.specs.declared.item_places.ItemPlace.{ItemPlace}
 abbrev pub itemAtPlace : List ℕ → ℕ → List ℕ
 itemAtPlace s at = take (find comma (drop at s)) (drop at s)
 
--- where an item that begins at a place has its name and its value, 0 and 0 where it has no `=`; and where the next would begin, past the comma
+-- where an item that begins at a place has its name and its value; and where the next would begin, past the comma. Free answers: without a `=` the
+-- value has 0 and 0; after the last item the next would begin one past the end
 abbrev pub placeOf : ℕ → List ℕ → ItemPlace
 placeOf at item =
     let name = cut equals item .0 in

@@ -7,7 +7,7 @@ use Rattle.text.specs.declared.units.Chars.{Chars}
 abbrev pub longestName : ℕ
 longestName = 32
 
--- bytes of a value and of a salt
+-- bytes of a value and of a salt, and so their characters
 abbrev pub longestValue : ℕ
 longestValue = 128
 

@@ -1,4 +1,4 @@
--- The pieces of a string, sorted. A string is `$` and then pieces parted by `$`; a piece is the bytes after its `$`.
+-- 'A string is `$` and then pieces parted by `$`. A piece is the bytes after its `$`': the pieces of a string, sorted.
 -- Assumes nothing.
 use Prim.Native.Nat.{ℕ}
 use mathlib.Core.Bool.{Bool, true, false, _&&_}
@@ -41,8 +41,8 @@ belongs Params s = isParamsPiece s
 belongs Salt s = true
 belongs Output s = true
 
--- The first piece is the id. If the next begins with `v=` it is the version. If the piece after those contains `=` it is the parameters.
--- What remains is the salt, then the output.
+-- 'The first piece is the id. If the next piece begins with `v=` it's the version piece. If the piece after those contains `=` it's the parameter
+-- piece. What remains is the salt, then the output.'
 abbrev pub sort : Parts → Pieces
 sort p =
     let afterVersion = tailIf (belongs Version) (p .1) in

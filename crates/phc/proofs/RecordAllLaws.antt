@@ -11,7 +11,7 @@ use borrow.Author.Tests.{eqb-true, eqb-false, eq-eqb}
 use Rattle.text.specs.Place.{Outcome, over, putAfter}
 use Rattle.text.proofs.Writing.{put-refused, put-clear, put-full, put-done, after-zero, after-number}
 use Rattle.table.specs.Limits.{editionTwo}
-use Rattle.profile.specs.Reader.{answer, fieldsOf}
+use Rattle.profile.specs.Reader.{readerNumber, fieldsOf}
 use Rattle.profile.specs.Entries.{reading}
 use Rattle.profile.proofs.ReadLaws.{reading-number}
 use Rattle.fast_path.specs.Contents.{joinedBytes, counted, refusedContents, allDecoded, contents}
@@ -27,7 +27,7 @@ contents-number s buffer = go (allDecoded editionTwo s buffer 0 .number) refl (e
         → cond b (counted (reading editionTwo s) (fieldsOf editionTwo s)) (refusedContents n) .reading .number ≡ n
     go n e true t =
         let z = eqb-true n 0 t in
-        let q = after-zero (answer editionTwo s) buffer 0 (joinedBytes (fieldsOf editionTwo s)) (e ∙ z) in
+        let q = after-zero (readerNumber editionTwo s) buffer 0 (joinedBytes (fieldsOf editionTwo s)) (e ∙ z) in
         reading-number editionTwo s ∙ q .0 ∙ sym z
     go n e false t = refl
 
@@ -65,7 +65,7 @@ module _ (s «record» buffer : List ℕ) where
           rw e (stopped (reading editionTwo s .number) (omega (arith, z)) (sym (ap (λ (o : Outcome). o .number) q)))
 
   -- the record fits: the number is the reader's
-  pub fits-number : recordAllLength ≤ length «record» → fits .number ≡ answer editionTwo s
+  pub fits-number : recordAllLength ≤ length «record» → fits .number ≡ readerNumber editionTwo s
   fits-number h = after-number (reading editionTwo s .number) «record» told (λ z. omega arith) ∙ reading-number editionTwo s
 
   module _ (h : recordAllLength ≤ length «record») (c : Contents) (e : c ≡ contents editionTwo s buffer 0) (left : List ℕ) (w : left ≡ allDecoded editionTwo s buffer 0 .buffer) where

@@ -1,7 +1,7 @@
--- Every refusal of an exported function is 1 to 99, no other answer is, and the writers never give 0.
+-- What a refusal of an exported function is: its number, that it changes no byte, and that its answer is 1 to 99; and the writers never give 0.
 -- Assumes nothing.
 use Prim.Native.Nat.{ℕ, _*_, _≤_}
-use mathlib.Core.Bool.{Bool, true, false, cond, _||_}
+use mathlib.Core.Bool.{Bool, true, false, not, cond, _||_}
 use mathlib.Core.List.{List, _++_}
 use mathlib.Core.Path.{_≡_, refl, sym, ap, _∙_}
 use native.Mathlib.Omega.{arith}
@@ -9,20 +9,20 @@ use lib.Dec.{leb, eqb}
 use lib.ListN.{length}
 use borrow.Author.Tests.{eqb-true, eqb-false, leb-true, le-leb}
 use Rattle.text.specs.Text.{within, all, has}
-use Rattle.text.specs.Place.{Outcome, putAfter}
+use Rattle.text.specs.Place.{Outcome, putAfter, Refuses}
 use Rattle.text.proofs.Tests.{from-within}
 use Rattle.text.proofs.Lists.{all-has}
-use Rattle.text.proofs.Writing.{after-zero, after-done, after-refuses}
+use Rattle.text.proofs.Writing.{put-refused, after-zero, after-done, after-refuses}
 use Rattle.table.specs.Limits.{editionTwo}
 use Rattle.profile.specs.Fields.{FieldSet}
 use Rattle.profile.specs.Reader.{fieldsOf}
-use Rattle.profile.specs.Writer.{refusal, formatted, shortFields}
+use Rattle.profile.specs.Writer.{writerNumber, formatted, shortFields}
 use Rattle.profile.specs.Entries.{reading, algorithmVersion, decoded, writing, shortWriting}
-use Rattle.profile.specs.Claims.{readerNumber, byteStringNumber, writerNumbers, writerNumber, shortWriterNumbers, shortWriterNumber}
+use Rattle.profile.specs.Claims.{isReaderNumber, isByteStringNumber, writerNumbers, isWriterNumber, shortWriterNumbers, isShortWriterNumber}
+use Rattle.profile.specs.declared.fields.ByteString.{ByteString}
 use Rattle.profile.proofs.Promises.{promises}
 use Rattle.fast_path.specs.Contents.{joinedBytes, counted}
-use Rattle.phc.specs.Records.{recordBytes, countBytes, recorded, recordedAll, coded}
-use Rattle.phc.specs.Claims.{Refusals}
+use Rattle.phc.specs.Records.{recordBytes, countBytes, recorded, allOutcome, recordedAll, codeOf, coded, isRefusal}
 use Rattle.phc.proofs.CodeLaws.{code-tells, number-tells}
 
 -- ---- the numbers of an entry are at most 99
@@ -41,10 +41,10 @@ small own h n p = go (eqb n 0) refl
 listed : (ns : List ℕ) → all isSmall ns ≡ true → (k : ℕ) → has k ns ≡ true → k ≤ 99
 listed ns a k h = leb-true k 99 (all-has isSmall k ns a h)
 
-reader-small : (k : ℕ) → readerNumber k ≡ true → k ≤ 99
+reader-small : (k : ℕ) → isReaderNumber k ≡ true → k ≤ 99
 reader-small k h = omega (arith, from-within 1 15 k h .1)
 
-byte-string-small : (k : ℕ) → byteStringNumber k ≡ true → k ≤ 99
+byte-string-small : (k : ℕ) → isByteStringNumber k ≡ true → k ≤ 99
 byte-string-small k h = go (within 1 15 k) refl h
   where
     go : (b : Bool) → within 1 15 k ≡ b → (b || eqb k 17) ≡ true → k ≤ 99
@@ -57,19 +57,49 @@ after-small n buffer at bytes h =
     (λ z. after-refuses isSmall n buffer at bytes (λ y. le-leb n 99 h) refl z .0)
 
 reading-small : (s : List ℕ) → reading editionTwo s .number ≤ 99
-reading-small s = small readerNumber reader-small (reading editionTwo s .number) (λ z. promises .demand-1 .read s z .0)
+reading-small s = small isReaderNumber reader-small (reading editionTwo s .number) (λ z. promises .demand-1 .read s z .0)
 
 recorded-small : (s «record» : List ℕ) → recorded s «record» .number ≤ 99
 unfolding recorded
 recorded-small s «record» = after-small (reading editionTwo s .number) «record» 0 (recordBytes (reading editionTwo s)) (reading-small s)
 
-recorded-all-small : (s «record» buffer : List ℕ) → recordedAll s «record» buffer .number ≤ 99
-unfolding recordedAll
-recorded-all-small s «record» buffer =
-    let c = counted (reading editionTwo s) (fieldsOf editionTwo s) in
-    let text = recordBytes (reading editionTwo s) ++ countBytes c in
-    after-small (putAfter (reading editionTwo s .number) «record» 0 text .number) buffer 0 (joinedBytes (fieldsOf editionTwo s))
-    (after-small (reading editionTwo s .number) «record» 0 text (reading-small s))
+-- ---- the record, and all in one call
+
+-- the reader's numbers are among the byte-string entry's
+reading-own : (s : List ℕ) → (reading editionTwo s .number ≡ 0 → ⊥) → isByteStringNumber (reading editionTwo s .number) ≡ true
+reading-own s z = rw (promises .demand-1 .read s z .0)
+
+pub read-refuses : (s «record» : List ℕ) → Refuses isByteStringNumber «record» (recorded s «record»)
+unfolding recorded
+read-refuses s «record» = after-refuses isByteStringNumber (reading editionTwo s .number) «record» 0 (recordBytes (reading editionTwo s)) (reading-own s) refl
+
+module _ (s «record» buffer : List ℕ) where
+  abbrev told : List ℕ
+  told = recordBytes (reading editionTwo s) ++ countBytes (counted (reading editionTwo s) (fieldsOf editionTwo s))
+
+  abbrev fits : ℕ
+  fits = putAfter (reading editionTwo s .number) «record» 0 told .number
+
+  abbrev bytes : Outcome
+  bytes = putAfter fits buffer 0 (joinedBytes (fieldsOf editionTwo s))
+
+  pub read-all-small : recordedAll s «record» buffer .number ≤ 99
+  unfolding recordedAll
+  read-all-small =
+      after-small fits buffer 0 (joinedBytes (fieldsOf editionTwo s)) (after-small (reading editionTwo s .number) «record» 0 told (reading-small s))
+
+  bytes-refuse : Refuses isByteStringNumber buffer bytes
+  bytes-refuse =
+      after-refuses isByteStringNumber fits buffer 0 (joinedBytes (fieldsOf editionTwo s))
+      (λ z. after-refuses isByteStringNumber (reading editionTwo s .number) «record» 0 told (reading-own s) refl z .0) refl
+
+  pub read-all-refuses : (recordedAll s «record» buffer .number ≡ 0 → ⊥)
+      → (isByteStringNumber (recordedAll s «record» buffer .number) ≡ true) × (recordedAll s «record» buffer ≡ allOutcome (recordedAll s «record» buffer .number) «record» buffer)
+  unfolding recordedAll
+  read-all-refuses z =
+      let b = bytes-refuse z in
+      let r = put-refused «record» 0 told (bytes .number) (bytes .number) refl (omega (arith, z)) in
+      (b .0, λ i. allOutcome (bytes .number) (sym r i .buffer) (b .1 i .buffer))
 
 -- ---- a string has a byte
 
@@ -77,12 +107,12 @@ not-empty : (f : FieldSet) → 1 ≤ length (formatted editionTwo f)
 unfolding formatted
 not-empty f = omega arith
 
-write-not-0 : (f : FieldSet) (buffer : List ℕ) → coded (writing editionTwo f buffer 0) ≡ 0 → ⊥
+pub write-not-0 : (f : FieldSet) (buffer : List ℕ) → coded (writing editionTwo f buffer 0) ≡ 0 → ⊥
 unfolding writing
 write-not-0 f buffer z = go (eqb (putAfter n buffer 0 t .number) 0) refl z
   where
     n : ℕ
-    n = refusal editionTwo f
+    n = writerNumber editionTwo f
 
     t : List ℕ
     t = formatted editionTwo f
@@ -94,26 +124,37 @@ write-not-0 f buffer z = go (eqb (putAfter n buffer 0 t .number) 0) refl z
         absurd (omega (arith, not-empty f))
     go false e z = eqb-false (putAfter n buffer 0 t .number) 0 e z
 
--- ---- the claims
+pub write-short-not-0 : (k : ℕ) (salt output buffer : List ℕ) → coded (shortWriting editionTwo k salt output buffer 0) ≡ 0 → ⊥
+write-short-not-0 k salt output buffer z =
+    write-not-0 (shortFields editionTwo k salt output) buffer (ap coded (sym (promises .short-agrees .writes k salt output buffer 0)) ∙ z)
 
-pub refusals : Refusals
-refusals =
-    record {
-      read = λ s «record». number-tells (recorded s «record» .number) (recorded-small s «record»);
-      read-all = λ s «record» buffer. number-tells (recordedAll s «record» buffer .number) (recorded-all-small s «record» buffer);
-      algorithm-version = λ s.
-          let v = algorithmVersion editionTwo s in
-          code-tells (v .number) (v .version) (small readerNumber reader-small (v .number) (λ z. promises .demand-1 .algorithm-version s z .0));
-      byte-string = λ c s buffer.
-          let o = decoded editionTwo c s buffer 0 in
-          code-tells (o .number) (o .count) (small byteStringNumber byte-string-small (o .number) (λ z. promises .demand-1 .byte-string c s buffer 0 z .0));
-      write = λ f buffer.
-          let o = writing editionTwo f buffer 0 in
-          code-tells (o .number) (o .count) (small writerNumber (listed writerNumbers refl) (o .number) (λ z. promises .demand-1 .write f buffer 0 z .0));
-      write-short = λ k salt output buffer.
-          let o = shortWriting editionTwo k salt output buffer 0 in
-          code-tells (o .number) (o .count) (small shortWriterNumber (listed shortWriterNumbers refl) (o .number) (λ z. promises .demand-1 .write-short k salt output buffer 0 z .0));
-      write-not-0 = write-not-0;
-      write-short-not-0 = λ k salt output buffer z.
-          write-not-0 (shortFields editionTwo k salt output) buffer (ap coded (sym (promises .short-agrees .writes k salt output buffer 0)) ∙ z);
-    }
+-- ---- answers
+
+pub read-answer : (s «record» : List ℕ) → isRefusal (recorded s «record» .number) ≡ not (eqb (recorded s «record» .number) 0)
+read-answer s «record» = number-tells (recorded s «record» .number) (recorded-small s «record»)
+
+pub read-all-answer : (s «record» buffer : List ℕ) → isRefusal (recordedAll s «record» buffer .number) ≡ not (eqb (recordedAll s «record» buffer .number) 0)
+read-all-answer s «record» buffer = number-tells (recordedAll s «record» buffer .number) (read-all-small s «record» buffer)
+
+pub algorithm-version-answer : (s : List ℕ)
+    → isRefusal (codeOf (algorithmVersion editionTwo s .number) (algorithmVersion editionTwo s .version)) ≡ not (eqb (algorithmVersion editionTwo s .number) 0)
+unfolding algorithmVersion
+algorithm-version-answer s = code-tells (reading editionTwo s .number) (algorithmVersion editionTwo s .version) (reading-small s)
+
+-- an outcome that refuses with the entry's own numbers
+coded-answer : (own : ℕ → Bool) → ((k : ℕ) → own k ≡ true → k ≤ 99) → (buffer : List ℕ) (o : Outcome) → Refuses own buffer o
+    → isRefusal (coded o) ≡ not (eqb (o .number) 0)
+coded-answer own h buffer o r = code-tells (o .number) (o .count) (small own h (o .number) (λ z. r z .0))
+
+pub byte-string-answer : (c : ByteString) (s buffer : List ℕ)
+    → isRefusal (coded (decoded editionTwo c s buffer 0)) ≡ not (eqb (decoded editionTwo c s buffer 0 .number) 0)
+byte-string-answer c s buffer = coded-answer isByteStringNumber byte-string-small buffer (decoded editionTwo c s buffer 0) (promises .demand-1 .byte-string c s buffer 0)
+
+pub write-answer : (f : FieldSet) (buffer : List ℕ) → isRefusal (coded (writing editionTwo f buffer 0)) ≡ not (eqb (writing editionTwo f buffer 0 .number) 0)
+write-answer f buffer = coded-answer isWriterNumber (listed writerNumbers refl) buffer (writing editionTwo f buffer 0) (promises .demand-1 .write f buffer 0)
+
+pub write-short-answer : (k : ℕ) (salt output buffer : List ℕ)
+    → isRefusal (coded (shortWriting editionTwo k salt output buffer 0)) ≡ not (eqb (shortWriting editionTwo k salt output buffer 0 .number) 0)
+write-short-answer k salt output buffer =
+    coded-answer isShortWriterNumber (listed shortWriterNumbers refl) buffer (shortWriting editionTwo k salt output buffer 0)
+    (promises .demand-1 .write-short k salt output buffer 0)

@@ -16,14 +16,14 @@ use Rattle.text.proofs.Lists.{all-has}
 use Rattle.text.proofs.Table.{always}
 use Rattle.text.proofs.Over.{over-start}
 use Rattle.text.proofs.Writing.{after-zero, after-done}
-use Rattle.table.specs.Limits.{Profile, noProfile, profileOf, editionTwo, largest32, lowest, highest, versionAllowed, room}
+use Rattle.table.specs.Limits.{Profile, noProfile, profileOf, editionTwo, largest32, lowest, highest, versionAllowed}
 use Rattle.table.specs.declared.version.Version.{Version}
 use Rattle.table.specs.declared.version.Version.the-variants.{Absent, Number}
 use Rattle.profile.specs.Fields.{FieldSet, fieldSet}
-use Rattle.profile.specs.Reader.{answer, fieldsOf}
+use Rattle.profile.specs.Reader.{readerNumber, fieldsOf}
 use Rattle.profile.specs.Writer.{Permitted, formatted}
 use Rattle.profile.specs.Entries.{reading, writing}
-use Rattle.profile.specs.declared.fields.Fields.{Fields}
+use Rattle.profile.specs.declared.fields.NumberFields.{NumberFields}
 use Rattle.profile.specs.declared.fields.Reading.{Reading}
 use Rattle.profile.proofs.ReadLaws.{reading-number}
 use Rattle.profile.proofs.Promises.{promises}
@@ -50,7 +50,7 @@ all-word-sized : all wordSized (noProfile ∷ editionTwo) ≡ true
 unfolding wordSized editionTwo
 all-word-sized = refl
 
-record Words (f : Fields) : Type 0 where
+record Words (f : NumberFields) : Type 0 where
   version : versionNumber (f .version) ≤ largest32
   m : f .m ≤ largest32
   t : f .t ≤ largest32
@@ -144,7 +144,7 @@ module _ (s «record» buffer : List ℕ) (z : recordedAll s «record» buffer .
   clear-record : (reading editionTwo s .number ≡ 0) × (0 + length told ≤ length «record»)
   clear-record = after-zero (reading editionTwo s .number) «record» 0 told (clear .0)
 
-  is-accepted : answer editionTwo s ≡ 0
+  is-accepted : readerNumber editionTwo s ≡ 0
   is-accepted = sym (reading-number editionTwo s) ∙ clear-record .0
 
   back : Permitted editionTwo f × (formatted editionTwo f ≡ s)
@@ -169,9 +169,9 @@ module _ (s «record» buffer : List ℕ) (z : recordedAll s «record» buffer .
       let l : length (joinedBytes f) ≤ largest32 = omega (arith, fast-path-agrees .room s is-accepted) in
       (λ i. fieldsIn (record-is i) (buffer-is i))
       ∙ fields-back (reading editionTwo s) f (drop (length told) «record») (drop (length (joinedBytes f)) buffer) w l
-      ∙ ap (λ (n : Fields). fieldSet n (f .keyid) (f .«data») (f .salt) (f .output)) numbers-are
+      ∙ ap (λ (n : NumberFields). fieldSet n (f .keyid) (f .«data») (f .salt) (f .output)) numbers-are
 
-  pub written-back : (out : List ℕ) → room ≤ length out
+  pub written-back : (out : List ℕ) → 265 ≤ length out
       → writing editionTwo (fieldsIn (recordedAll s «record» buffer .«record») (recordedAll s «record» buffer .buffer)) out 0 ≡ outcome 0 (length s) (over out 0 s)
   written-back out r =
       let l = promises .lengths .any-most f (back .0) in

@@ -1,4 +1,4 @@
--- What the exported functions give: a record as bytes, and a count or a number in one answer.
+-- What the exported functions give: a record as bytes, and a count or a number in one answer. The layout is this interface's own.
 -- Assumes nothing.
 use Prim.Native.Nat.{ℕ, _*_, _/_, _%_}
 use mathlib.Core.Bool.{Bool, cond}
@@ -66,7 +66,7 @@ pub record AllOutcome : Type 0 where
 abbrev pub allOutcome : ℕ → List ℕ → List ℕ → AllOutcome
 allOutcome number «record» buffer = record { number = number; «record» = «record»; buffer = buffer }
 
--- the reader's number, then 17 where the record or the byte strings don't fit; and both are written, or neither
+-- the reader's number, then 17 where the record or the byte strings don't fit: each is tested before either is written, so both are, or neither
 unfoldable pub recordedAll : List ℕ → List ℕ → List ℕ → AllOutcome
 recordedAll s «record» buffer =
     let c = counted (reading editionTwo s) (fieldsOf editionTwo s) in

@@ -9,7 +9,7 @@ use Rattle.table.specs.declared.version.Version.{Version}
 use Rattle.table.specs.declared.version.Version.the-variants.{Absent, Number}
 use Rattle.profile.specs.Fields.{FieldSet, fieldSet}
 
--- 0 is absent, 1 is the number; another flag is a version that no profile permits, so that the writer answers 9 (or 8 before it)
+-- 0 is absent, 1 is the number. Free answer: another flag is a version that no profile permits, so that the writer answers 9 (or 8 before it)
 abbrev pub versionField : ℕ → ℕ → Version
 versionField flag version = cond (eqb flag 0) Absent (cond (eqb flag 1) (Number version) (Number 0))
 

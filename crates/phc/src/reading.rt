@@ -48,7 +48,7 @@ fn decode_one(s: &[u8], choice: ByteString, buf: &mut [u8]) -> u64
     code_of(r.number, count.0 as u64)
 }
 
-// keyid.
+// keyid, decoded: a hundred times its count, or 1 to 15, then 17.
 #[no_mangle]
 pub extern "C" fn phc_keyid(s: &[u8], buf: &mut [u8]) -> u64
     ensures { λ r. ⌜ (r ≡ coded (decoded editionTwo Keyid (now (s .entry)) (now (buf .entry)) 0)) × (now (buf .exit) ≡ decoded editionTwo Keyid (now (s .entry)) (now (buf .entry)) 0 .buffer) ⌝ }
@@ -56,7 +56,7 @@ pub extern "C" fn phc_keyid(s: &[u8], buf: &mut [u8]) -> u64
     decode_one(s, ByteString::Keyid, buf)
 }
 
-// data.
+// data, in the same way.
 #[no_mangle]
 pub extern "C" fn phc_data(s: &[u8], buf: &mut [u8]) -> u64
     ensures { λ r. ⌜ (r ≡ coded (decoded editionTwo Data (now (s .entry)) (now (buf .entry)) 0)) × (now (buf .exit) ≡ decoded editionTwo Data (now (s .entry)) (now (buf .entry)) 0 .buffer) ⌝ }
@@ -64,7 +64,7 @@ pub extern "C" fn phc_data(s: &[u8], buf: &mut [u8]) -> u64
     decode_one(s, ByteString::Data, buf)
 }
 
-// The salt.
+// The salt, in the same way.
 #[no_mangle]
 pub extern "C" fn phc_salt(s: &[u8], buf: &mut [u8]) -> u64
     ensures { λ r. ⌜ (r ≡ coded (decoded editionTwo Salt (now (s .entry)) (now (buf .entry)) 0)) × (now (buf .exit) ≡ decoded editionTwo Salt (now (s .entry)) (now (buf .entry)) 0 .buffer) ⌝ }
@@ -72,7 +72,7 @@ pub extern "C" fn phc_salt(s: &[u8], buf: &mut [u8]) -> u64
     decode_one(s, ByteString::Salt, buf)
 }
 
-// The output.
+// The output, in the same way.
 #[no_mangle]
 pub extern "C" fn phc_output(s: &[u8], buf: &mut [u8]) -> u64
     ensures { λ r. ⌜ (r ≡ coded (decoded editionTwo Output (now (s .entry)) (now (buf .entry)) 0)) × (now (buf .exit) ≡ decoded editionTwo Output (now (s .entry)) (now (buf .entry)) 0 .buffer) ⌝ }

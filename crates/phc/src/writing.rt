@@ -1,6 +1,6 @@
 // Writing: the string of the nine fields, and that of id, salt and output alone.
 use crate::code::code_of;
-use profile::fields::Fields;
+use profile::fields::NumberFields;
 use profile::writer::write;
 use profile::writer::write_short;
 use table::version::Version;
@@ -38,7 +38,7 @@ pub extern "C" fn phc_write(
 ) -> u64
     ensures { λ r. ⌜ (r ≡ coded (writing editionTwo (handed id «has_version» version m t p (now (keyid .entry)) (now («data» .entry)) (now (salt .entry)) (now (output .entry))) (now (buf .entry)) 0)) × (now (buf .exit) ≡ writing editionTwo (handed id «has_version» version m t p (now (keyid .entry)) (now («data» .entry)) (now (salt .entry)) (now (output .entry))) (now (buf .entry)) 0 .buffer) ⌝ }
 {
-    let fields = Fields {
+    let fields = NumberFields {
         id,
         version: version_field(has_version, version),
         m,

@@ -24,8 +24,8 @@ use Rattle.grammar.proofs.PieceLaws.{string-pieces}
 use Rattle.grammar.proofs.Reading.{bad-string-begins}
 use Rattle.table.specs.Limits.{Profile, idOf, profileOf, versionAllowed}
 use Rattle.table.specs.declared.limits.BytesRule.{BytesRule}
-use Rattle.profile.specs.Fields.{isSized, isBytes, readBytes, writeBytes, readVersion}
-use Rattle.profile.specs.Reader.{names, named, itemValue, namedValues, unmatchedItems, valueAt, misplaced, profileRows, answer, carried, fieldsOf}
+use Rattle.profile.specs.Fields.{isDecodedSize, isBytes, readBytes, writeBytes, readVersion}
+use Rattle.profile.specs.Reader.{parameterNames, named, itemValue, namedValues, unmatchedItems, valueAt, missingOrUnknown, profileRows, readerNumber, fieldsOfPieces, fieldsOf}
 use Rattle.profile.specs.Writer.{Permitted, itemList, fieldValues, fieldPieces, formatted}
 use Rattle.profile.specs.Sound.{sound}
 use Rattle.profile.proofs.Codecs.{number-back, bytes-back, value-filled, output-filled, version-back}
@@ -74,12 +74,12 @@ params-all (some s) e =
     (q .1, params-items s (q .1))
 
 -- an output is canonical by the grammar, and of a permitted size by the profile
-output-bytes : (r : BytesRule) (s : OptionalText) → violates isOutput s ≡ false → violates (isSized r) s ≡ false → violates (isBytes r) s ≡ false
+output-bytes : (r : BytesRule) (s : OptionalText) → violates isOutput s ≡ false → violates (isDecodedSize r) s ≡ false → violates (isBytes r) s ≡ false
 unfolding isOutput
 output-bytes r none o e = refl
 output-bytes r (some t) o e =
     let q = both (within 1 (longestOutput .0) (length t)) (canonical t) (is-true (isOutput t) o) in
-    not-of-true (and-true (q .1) (is-true (isSized r t) e))
+    not-of-true (and-true (q .1) (is-true (isDecodedSize r t) e))
 
 -- no output without a salt: a salt that is there has a byte
 ordered : (salt output : OptionalText) → After salt output → writeBytes (readBytes salt) ≡ salt → (empty (readBytes salt) && not (empty (readBytes output))) ≡ false
@@ -95,18 +95,18 @@ module _ (e : List Profile) (ok : sound e ≡ true) where
   -- what is read of the pieces is permitted, and is written to the same pieces
   back : (p : Pieces) → violates isVersionPiece (p .version) ≡ false → After (p .salt) (p .output)
       → Clear (pieceRows p) → Clear (profileRows e p)
-      → Permitted e (carried e p) × (fieldPieces e (carried e p) ≡ p)
+      → Permitted e (fieldsOfPieces e p) × (fieldPieces e (fieldsOfPieces e p) ≡ p)
   unfolding fieldPieces
   back p v a (g2, (g3, (g4, (g5, (g6, (g7, g)))))) (r8, (r9, (r10, (m₁, (t₁, (p₁, (lanes, (keyid₁, (ad₁, (m₂, (t₂, (p₂, (r14, (r15, u)))))))))))))) =
       let is = itemsOf (p .params) in
-      let vs = namedValues names is in
+      let vs = namedValues parameterNames is in
       let k = idOf e (p .id) in
       let r = profileOf e k in
       let known = is-true (r .known) r8 in
       let E = sound-column-at e ok k known in
       let P = params-all (p .params) g4 in
-      let G = values-good names is (P .0) in
-      let s10 = neither (not (empty (unmatchedItems names is))) (misplaced r vs) r10 in
+      let G = values-good parameterNames is (P .0) in
+      let s10 = neither (not (empty (unmatchedItems parameterNames is))) (missingOrUnknown r vs) r10 in
       let place₄ = neither _ _ (s10 .1) in
       let place₃ = neither _ _ (place₄ .0) in
       let place₂ = neither _ _ (place₃ .0) in
@@ -118,10 +118,10 @@ module _ (e : List Profile) (ok : sound e ≡ true) where
       let «data» = bytes-back (r .«data») (valueAt vs 4) (value-filled (valueAt vs 4) (G .1 .1 .1 .1 .0)) ad₁ in
       let salt = bytes-back (r .salt) (p .salt) (value-filled (p .salt) g5) r14 in
       let output = bytes-back (r .output) (p .output) (output-filled (p .output) g6) (output-bytes (r .output) (p .output) g6 r15) in
-      let left = empty-nil (unmatchedItems names is) (is-true (empty (unmatchedItems names is)) (s10 .0)) in
-      let same-values : fieldValues r (carried e p) ≡ vs = λ i. m .1 i ∷ t .1 i ∷ l .1 i ∷ keyid .1 i ∷ «data» .1 i ∷ [] in
-      let same-params : paramsText (itemList names (fieldValues r (carried e p))) ≡ p .params =
-      ap (λ (x : List OptionalText). paramsText (itemList names x)) same-values ∙ ap paramsText (list-values names is left) ∙ P .1 in
+      let left = empty-nil (unmatchedItems parameterNames is) (is-true (empty (unmatchedItems parameterNames is)) (s10 .0)) in
+      let same-values : fieldValues r (fieldsOfPieces e p) ≡ vs = λ i. m .1 i ∷ t .1 i ∷ l .1 i ∷ keyid .1 i ∷ «data» .1 i ∷ [] in
+      let same-params : paramsText (itemList parameterNames (fieldValues r (fieldsOfPieces e p))) ≡ p .params =
+      ap (λ (x : List OptionalText). paramsText (itemList parameterNames x)) same-values ∙ ap paramsText (list-values parameterNames is left) ∙ P .1 in
       let same-version = version-back (p .version) v g3 in
       let same-more = sym (empty-nil (p .more) (is-true (empty (p .more)) g7)) in (
         record {
@@ -136,15 +136,15 @@ module _ (e : List Profile) (ok : sound e ≡ true) where
             «data» = «data» .0;
             salt = salt .0;
             output = output .0;
-            order = ordered (p .salt) (p .output) a (salt .1);
+            output-with-salt = ordered (p .salt) (p .output) a (salt .1);
           };
           bytes = (keyid .2, «data» .2, salt .2, output .2);
         },
         λ i. record { id = name-of e (p .id) known i; version = same-version i; params = same-params i; salt = salt .1 i; output = output .1 i; more = same-more i },
       )
 
-  pub accepted : (s : List ℕ) → answer e s ≡ 0 → Permitted e (fieldsOf e s) × (formatted e (fieldsOf e s) ≡ s)
-  unfolding answer fieldsOf formatted
+  pub accepted : (s : List ℕ) → readerNumber e s ≡ 0 → Permitted e (fieldsOf e s) × (formatted e (fieldsOf e s) ≡ s)
+  unfolding readerNumber fieldsOf formatted
   accepted s z =
       let p = pieces s in
       let (g1, (g2, (g3, (g4, (g5, (g6, (g7, r))))))) = clear (grammarRows s ++ profileRows e p) refl z in

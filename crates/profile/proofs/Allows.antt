@@ -6,14 +6,14 @@ use Rattle.text.proofs.Tests.{not-of-true, is-true}
 use Rattle.text.proofs.Rows.{clear, zero-of}
 use Rattle.table.specs.Limits.{Profile, inRange, versionAllowed, profileOf}
 use Rattle.profile.specs.Fields.{FieldSet}
-use Rattle.profile.specs.Writer.{bytesAllowed, Allows, writerRows, refusal}
+use Rattle.profile.specs.Writer.{bytesAllowed, Allows, writerRows, writerNumber}
 
 -- the column of the fields' id
 abbrev pub here : List Profile → FieldSet → Profile
 here e f = profileOf e (f .numbers .id)
 
-pub allowed : (e : List Profile) (f : FieldSet) → refusal e f ≡ 0 → Allows (here e f) f
-unfolding refusal
+pub allowed : (e : List Profile) (f : FieldSet) → writerNumber e f ≡ 0 → Allows (here e f) f
+unfolding writerNumber
 allowed e f z =
     let (r8, (r9, (m, (t, (p, (lanes, (keyid, («data», (salt, (output, (order, u))))))))))) = clear (writerRows e f) refl z in
     let n = f .numbers in
@@ -29,11 +29,11 @@ allowed e f z =
       «data» = is-true (bytesAllowed (r .«data») (f .«data»)) «data»;
       salt = is-true (bytesAllowed (r .salt) (f .salt)) salt;
       output = is-true (bytesAllowed (r .output) (f .output)) output;
-      order = order;
+      output-with-salt = order;
     }
 
-pub allowed-zero : (e : List Profile) (f : FieldSet) → Allows (here e f) f → refusal e f ≡ 0
-unfolding refusal
+pub allowed-zero : (e : List Profile) (f : FieldSet) → Allows (here e f) f → writerNumber e f ≡ 0
+unfolding writerNumber
 allowed-zero e f h =
     let n = f .numbers in
     zero-of (writerRows e f) (
@@ -48,7 +48,7 @@ allowed-zero e f h =
               not-of-true (h .p),
               (
                 h .lanes,
-                (not-of-true (h .keyid), (not-of-true (h .«data»), (not-of-true (h .salt), (not-of-true (h .output), (h .order, tt))))),
+                (not-of-true (h .keyid), (not-of-true (h .«data»), (not-of-true (h .salt), (not-of-true (h .output), (h .output-with-salt, tt))))),
               ),
             ),
           ),

@@ -13,10 +13,10 @@ use Rattle.text.specs.Text.{every}
 use Rattle.text.proofs.Tests.{from-within, implied}
 use Rattle.text.proofs.Writing.{after-zero, after-done, over-same}
 use Rattle.grammar.specs.Pieces.{Pieces, pieces}
-use Rattle.table.specs.Limits.{Profile, lowest, highest, profileOf, editionTwo, room}
+use Rattle.table.specs.Limits.{Profile, lowest, highest, profileOf, editionTwo, longestPermitted}
 use Rattle.profile.specs.Fields.{FieldSet, chosen, writeBytes}
-use Rattle.profile.specs.Reader.{answer, fieldsOf}
-use Rattle.profile.specs.Writer.{Permitted, refusal, fieldPieces, formatted}
+use Rattle.profile.specs.Reader.{readerNumber, fieldsOf}
+use Rattle.profile.specs.Writer.{Permitted, writerNumber, fieldPieces, formatted}
 use Rattle.profile.specs.Entries.{kindOf, reading, decoded, writing}
 use Rattle.profile.specs.Spelling.{Demand3}
 use Rattle.profile.specs.Claims.{ruleSpelling, WrittenAt, WrittenTo, Carries, entrySpelling, EntriesDemand3, EntriesAgree, Lanes, Lengths}
@@ -24,7 +24,7 @@ use Rattle.profile.specs.Sound.{sound}
 use Rattle.profile.specs.declared.fields.ByteString.{ByteString}
 use Rattle.profile.specs.declared.fields.ByteString.the-variants.{Keyid, Data, Salt, Output}
 use Rattle.profile.specs.declared.fields.Reading.{Reading}
-use Rattle.profile.proofs.ReadLaws.{reading-number}
+use Rattle.profile.proofs.ReadLaws.{reading-number, reading-fields}
 use Rattle.profile.proofs.SoundLaws.{at-id, edition-two-sound}
 use Rattle.profile.proofs.Written.{pieces-of, written}
 use Rattle.profile.proofs.Accepted.{accepted}
@@ -41,7 +41,8 @@ demand-3 e ok =
       accepted = λ s f c. c .0;
       one = λ s f g c d. sym (c .1) ∙ d .1;
       back = λ s f c. subst (λ (g : FieldSet). Permitted e g × (formatted e g ≡ s)) (c .1) (accepted e ok s (c .0));
-      carried = λ f s p q. subst (λ (u : List ℕ). (answer e u ≡ 0) × (fieldsOf e u ≡ f)) q (written e ok f p);
+      carried = λ f s p q. subst (λ (u : List ℕ). (readerNumber e u ≡ 0) × (fieldsOf e u ≡ f)) q (written e ok f p);
+      writes = λ f p. (formatted e f, refl);
       one-string = λ f s u p q r. sym q ∙ r;
     })
 
@@ -53,26 +54,22 @@ read-kind : (e : List Profile) (ok : sound e ≡ true) (f : FieldSet) → Permit
 unfolding fieldPieces
 read-kind e ok f h = ap (λ (p : Pieces). record { number = 0; kind = kindOf (p .salt) (p .output); fields = f .numbers }) (pieces-of e ok f h)
 
-reading-fields : (e : List Profile) (s : List ℕ) → answer e s ≡ 0 → reading e s .fields ≡ fieldsOf e s .numbers
-unfolding reading
-reading-fields e s z = rw z
-
 -- an accepted string carries its fields
-carries : (e : List Profile) (s : List ℕ) → answer e s ≡ 0 → Carries e s (fieldsOf e s)
+carries : (e : List Profile) (s : List ℕ) → readerNumber e s ≡ 0 → Carries e s (fieldsOf e s)
 unfolding decoded
 carries e s z =
     record {
       fields = reading-fields e s z;
-      strings = λ c buffer at l. after-done (answer e s) buffer at (chosen c (fieldsOf e s)) z l;
+      strings = λ c buffer at l. after-done (readerNumber e s) buffer at (chosen c (fieldsOf e s)) z l;
     }
 
 pub entries-agree : (e : List Profile) → sound e ≡ true → EntriesAgree e
 unfolding writing reading
 entries-agree e ok =
     record {
-      writes = λ f h buffer at l. after-done (refusal e f) buffer at (formatted e f) (not-refused e f h) l;
+      writes = λ f h buffer at l. after-done (writerNumber e f) buffer at (formatted e f) (not-refused e f h) l;
       writes-only = λ f b buffer at z.
-          let q = after-zero (refusal e f) buffer at (formatted e f) z in
+          let q = after-zero (writerNumber e f) buffer at (formatted e f) z in
           (permitted e f (q .0) b, q .1);
       reads = λ f h.
           let w = written e ok f h in
@@ -84,16 +81,16 @@ entries-agree e ok =
 
 -- ---- demand 3, of the outcomes
 
-zero : (e : List Profile) (s : List ℕ) → reading e s .number ≡ 0 → answer e s ≡ 0
+zero : (e : List Profile) (s : List ℕ) → reading e s .number ≡ 0 → readerNumber e s ≡ 0
 zero e s z = sym (reading-number e s) ∙ z
 
 module _ (e : List Profile) (s : List ℕ) (f : FieldSet) (h : Carries e s f) where
   -- the byte-string entry answers 0 where there is room
-  carrying : answer e s ≡ 0
+  carrying : readerNumber e s ≡ 0
   unfolding decoded
   carrying =
       let x = f .keyid in
-      after-zero (answer e s) x 0 (fieldsOf e s .keyid) (ap (λ (o : Outcome). o .number) (h .strings Keyid x 0 (omega arith))) .0
+      after-zero (readerNumber e s) x 0 (fieldsOf e s .keyid) (ap (λ (o : Outcome). o .number) (h .strings Keyid x 0 (omega arith))) .0
 
   -- each byte string, decoded into a buffer with room for both
   same-bytes : (c : ByteString) → chosen c (fieldsOf e s) ≡ chosen c f
@@ -103,7 +100,7 @@ module _ (e : List Profile) (s : List ℕ) (f : FieldSet) (h : Carries e s f) wh
       let y = chosen c f in
       let buffer = x ++ y in
       let l = length-append x y in
-      over-same buffer 0 x y (omega arith) (sym (after-done (answer e s) buffer 0 x carrying (omega arith)) ∙ h .strings c buffer 0 (omega arith))
+      over-same buffer 0 x y (omega arith) (sym (after-done (readerNumber e s) buffer 0 x carrying (omega arith)) ∙ h .strings c buffer 0 (omega arith))
 
   same-carried : fieldsOf e s ≡ f
   same-carried =
@@ -116,14 +113,14 @@ module _ (e : List Profile) (s : List ℕ) (f : FieldSet) (h : Carries e s f) wh
 
 -- a buffer with the room
 abbrev wide : List ℕ
-wide = replicate room 0
+wide = replicate longestPermitted 0
 
-module _ (e : List Profile) (ok : sound e ≡ true) (short : (f : FieldSet) → Permitted e f → length (formatted e f) ≤ room) where
+module _ (e : List Profile) (ok : sound e ≡ true) (short : (f : FieldSet) → Permitted e f → length (formatted e f) ≤ longestPermitted) where
   agree : EntriesAgree e
   agree = entries-agree e ok
 
   -- a call with the room writes permitted fields to their string
-  calls : (f : FieldSet) → Permitted e f → (buffer : List ℕ) (at : ℕ) → at + room ≤ length buffer → WrittenAt e f (formatted e f) buffer at
+  calls : (f : FieldSet) → Permitted e f → (buffer : List ℕ) (at : ℕ) → at + longestPermitted ≤ length buffer → WrittenAt e f (formatted e f) buffer at
   calls f p buffer at r = let l = short f p in agree .writes f p buffer at (omega arith)
 
   wrote : (f : FieldSet) (s : List ℕ) → Permitted e f → WrittenTo e f s → formatted e f ≡ s
@@ -131,12 +128,15 @@ module _ (e : List Profile) (ok : sound e ≡ true) (short : (f : FieldSet) → 
       let r = w .has-room in
       over-same (w .buffer) (w .place) (formatted e f) s (omega arith) (sym (calls f p (w .buffer) (w .place) r) ∙ w .written)
 
+  written-wide : (f : FieldSet) (s : List ℕ) → formatted e f ≡ s → Permitted e f → WrittenTo e f s
+  written-wide f s q p =
+      record { buffer = wide; place = 0; has-room = omega arith; written = subst (λ (u : List ℕ). WrittenAt e f u wide 0) q (calls f p wide 0 (omega arith)) }
+
   back : (s : List ℕ) (f : FieldSet) → Carries e s f → Permitted e f × WrittenTo e f s
   back s f c =
       let a = accepted e ok s (carrying e s f c) in
       let p = subst (Permitted e) (same-carried e s f c) (a .0) in
-      let q : formatted e f ≡ s = ap (formatted e) (sym (same-carried e s f c)) ∙ a .1 in
-      (p, record { buffer = wide; place = 0; has-room = omega arith; written = subst (λ (u : List ℕ). WrittenAt e f u wide 0) q (calls f p wide 0 (omega arith)) })
+      (p, written-wide f s (ap (formatted e) (sym (same-carried e s f c)) ∙ a .1) p)
 
   pub entries-demand-3 : EntriesDemand3 e
   entries-demand-3 =
@@ -149,6 +149,7 @@ module _ (e : List Profile) (ok : sound e ≡ true) (short : (f : FieldSet) → 
               one = λ s f g c d. sym (same-carried e s f c) ∙ same-carried e s g d;
               back = back;
               carried = λ f s p w. subst (λ (u : List ℕ). Carries e u f) (wrote f s p w) (agree .carries f p);
+              writes = λ f p. (formatted e f, written-wide f (formatted e f) refl p);
               one-string = λ f s u p v w. sym (wrote f s p v) ∙ wrote f u p w;
             });
         every-call = λ f s p w buffer at r. subst (λ (u : List ℕ). WrittenAt e f u buffer at) (wrote f s p w) (calls f p buffer at r);

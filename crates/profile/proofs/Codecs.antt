@@ -26,14 +26,14 @@ use Rattle.grammar.specs.Limits.{longestValue, longestOutput, largestVersion}
 use Rattle.grammar.specs.Pieces.{OptionalText, isVersionPiece}
 use Rattle.grammar.specs.Rules.{isValue, versionReading, isVersion, isOutput}
 use Rattle.grammar.proofs.ValueBytes.{canonical-values}
-use Rattle.table.specs.Limits.{inRange, versionAllowed, largest32, misplacedNumber}
+use Rattle.table.specs.Limits.{inRange, versionAllowed, largest32, missingOrUnknownNumber}
 use Rattle.table.specs.declared.limits.NumberRule.{NumberRule}
 use Rattle.table.specs.declared.limits.NumberRule.the-variants.{Required, Defaulted, Constant}
 use Rattle.table.specs.declared.limits.BytesRule.{BytesRule}
 use Rattle.table.specs.declared.limits.BytesRule.the-variants.{Sized, Forbidden}
 use Rattle.table.specs.declared.version.Version.{Version}
 use Rattle.table.specs.declared.version.Version.the-variants.{Absent, Number}
-use Rattle.profile.specs.Fields.{isNumber, readNumber, writtenOut, writeNumber, misplacedBytes, isSized, isBytes, readBytes, writeBytes, readVersion, writeVersion}
+use Rattle.profile.specs.Fields.{isNumber, readNumber, writtenOut, writeNumber, unknownBytes, isDecodedSize, isBytes, readBytes, writeBytes, readVersion, writeVersion}
 use Rattle.profile.specs.Writer.{bytesAllowed}
 use Rattle.profile.specs.Sound.{soundNumber, textWithin, soundVersions}
 
@@ -76,7 +76,7 @@ digits-good n h =
 -- ---- numbers
 
 pub number-back : (r : NumberRule) (s : OptionalText) → soundNumber r ≡ true
-    → misplacedNumber r s ≡ false → violates (isNumber r) s ≡ false → writtenOut r s ≡ false
+    → missingOrUnknownNumber r s ≡ false → violates (isNumber r) s ≡ false → writtenOut r s ≡ false
     → (inRange r (readNumber r s) ≡ true) × (writeNumber r (readNumber r s) ≡ s)
 number-back (Required low high) none k a b c = absurd (true≢false a)
 number-back (Required low high) (some t) k a b c =
@@ -92,7 +92,7 @@ number-back (Constant value) (some t) k a b c = absurd (true≢false a)
 
 -- what a written optional text satisfies
 pub record NumberWritten (r : NumberRule) (n : ℕ) (s : OptionalText) : Type 0 where
-  pub placed : misplacedNumber r s ≡ false
+  pub placed : missingOrUnknownNumber r s ≡ false
   pub number : violates (isNumber r) s ≡ false
   pub short : writtenOut r s ≡ false
   pub reads : readNumber r s ≡ n
@@ -142,7 +142,7 @@ pub bytes-back : (r : BytesRule) (s : OptionalText) → violates (λ t. not (emp
     → (bytesAllowed r (readBytes s) ≡ true) × (writeBytes (readBytes s) ≡ s) × (all isByte (readBytes s) ≡ true)
 bytes-back r none v e = (refl, refl, refl)
 bytes-back r (some t) v e =
-    let q = both (canonical t) (isSized r t) (is-true (isBytes r t) e) in
+    let q = both (canonical t) (isDecodedSize r t) (is-true (isBytes r t) e) in
     let u = filled t (decode t) (is-false (empty t) (is-true (not (empty t)) v)) (encode-decode t (q .0)) in
     (rw (u .0, q .1), u .1, bytes-decode t (q .0))
 
@@ -163,9 +163,9 @@ output-filled (some t) e = not-of-true (some-byte (longestOutput .0) t (both (wi
 
 -- what a written optional text satisfies, where a text may have so many characters
 pub record BytesWritten (most : ℕ) (r : BytesRule) (bs : List ℕ) (s : OptionalText) : Type 0 where
-  pub placed : misplacedBytes r s ≡ false
+  pub placed : unknownBytes r s ≡ false
   pub bytes : violates (isBytes r) s ≡ false
-  pub sized : violates (isSized r) s ≡ false
+  pub sized : violates (isDecodedSize r) s ≡ false
   pub reads : readBytes s ≡ bs
   pub counted : violates (λ t. within 1 most (length t)) s ≡ false
   pub text-is : violates canonical s ≡ false
@@ -174,7 +174,7 @@ pub bytes-forth : (most : ℕ) (r : BytesRule) (bs : List ℕ) → textWithin mo
     → BytesWritten most r bs (writeBytes bs)
 bytes-forth most r [] k a e = record { placed = go r; bytes = refl; sized = refl; reads = refl; counted = refl; text-is = refl }
   where
-    go : (r : BytesRule) → misplacedBytes r none ≡ false
+    go : (r : BytesRule) → unknownBytes r none ≡ false
     go (Sized low high) = refl
     go Forbidden = refl
 bytes-forth most (Sized low high) (b ∷ bs) k a e =
@@ -185,7 +185,7 @@ bytes-forth most (Sized low high) (b ∷ bs) k a e =
     let w = from-within (low .0) (high .0) (length x) e in
     let h = leb-true (charsOf (high .0)) most k in
     let n = to-within 1 most (length (encode x)) (omega arith) (omega arith) in
-    let z : isSized (Sized low high) (encode x) ≡ true = ap (λ (l : List ℕ). within (low .0) (high .0) (length l)) d ∙ e in
+    let z : isDecodedSize (Sized low high) (encode x) ≡ true = ap (λ (l : List ℕ). within (low .0) (high .0) (length l)) d ∙ e in
     record {
       placed = refl;
       bytes = not-of-true (and-true c z);

@@ -5,28 +5,29 @@ use mathlib.Core.List.{List}
 use mathlib.Core.Path.{_≡_}
 use Rattle.table.specs.Limits.{Profile}
 use Rattle.profile.specs.Fields.{FieldSet}
-use Rattle.profile.specs.Writer.{OfBytes, Permitted, refusal}
+use Rattle.profile.specs.Writer.{OfBytes, Permitted, writerNumber}
 use Rattle.profile.specs.Spelling.{Spelling, Demand3}
 use Rattle.profile.proofs.Allows.{allowed, allowed-zero}
 
 -- ---- permitted fields and the writer's number
 
-pub not-refused : (e : List Profile) (f : FieldSet) → Permitted e f → refusal e f ≡ 0
+pub not-refused : (e : List Profile) (f : FieldSet) → Permitted e f → writerNumber e f ≡ 0
 not-refused e f h = allowed-zero e f (h .column)
 
-pub permitted : (e : List Profile) (f : FieldSet) → refusal e f ≡ 0 → OfBytes f → Permitted e f
+pub permitted : (e : List Profile) (f : FieldSet) → writerNumber e f ≡ 0 → OfBytes f → Permitted e f
 permitted e f z b = record { column = allowed e f z; bytes = b }
 
 -- ---- a spelling
 
--- an accepted string carries fields, one set of them; a string carries the fields that are written to it, and no others; fields are written to
--- one string
+-- an accepted string carries fields, one set of them; a string carries the fields that are written to it, and no others; permitted fields are
+-- written to a string, and to one
 pub record OneToOne (w : Spelling) : Type 0 where
   pub some : (s : List ℕ) → w .Accepted s → (f : FieldSet) × w .Carries s f
   pub accepted : (s : List ℕ) (f : FieldSet) → w .Carries s f → w .Accepted s
   pub one : (s : List ℕ) (f g : FieldSet) → w .Carries s f → w .Carries s g → f ≡ g
   pub back : (s : List ℕ) (f : FieldSet) → w .Carries s f → w .Permitted f × w .WrittenTo f s
   pub carried : (f : FieldSet) (s : List ℕ) → w .Permitted f → w .WrittenTo f s → w .Carries s f
+  pub writes : (f : FieldSet) → w .Permitted f → (s : List ℕ) × w .WrittenTo f s
   pub one-string : (f : FieldSet) (s u : List ℕ) → w .Permitted f → w .WrittenTo f s → w .WrittenTo f u → s ≡ u
 
 pub demand-3-of : (w : Spelling) → OneToOne w → Demand3 w
@@ -40,4 +41,5 @@ demand-3-of w h =
       );
       written-back = h .back;
       carries = λ s. (h .some s, λ q. h .accepted s (q .0) (q .1));
+      writes = h .writes;
     }

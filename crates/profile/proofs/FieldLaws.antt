@@ -10,29 +10,36 @@ use Rattle.text.specs.Rows.{firstOf}
 use Rattle.decimal.specs.Numerals.{limitedValue}
 use Rattle.grammar.specs.Parts.{partAt}
 use Rattle.grammar.specs.declared.places.Span.{Span}
-use Rattle.table.specs.Limits.{misplacedNumber, isOmitted}
+use Rattle.table.specs.Limits.{missingOrUnknownNumber, isOmitted}
 use Rattle.table.specs.declared.limits.NumberRule.{NumberRule}
-use Rattle.table.specs.declared.limits.NumberRule.the-variants.{Required, Constant}
+use Rattle.table.specs.declared.limits.NumberRule.the-variants.{Required, Defaulted, Constant}
 use Rattle.table.specs.declared.limits.BytesRule.the-variants.{Forbidden}
 use Rattle.profile.specs.Reader.{numberRow}
-use Rattle.profile.specs.Fields.{numberReading, readNumber, writtenOut, misplacedBytes}
+use Rattle.profile.specs.Fields.{numberReading, readNumber, writtenOut, unknownBytes}
 use Rattle.profile.specs.ReaderSteps.{spanText}
 use Rattle.profile.proofs.OptionalTextLaws.{optional-some}
 
 module _ (s : List ℕ) (w : Span) where
   -- ---- numbers
 
-  pub missing-required : (low high : ℕ) → eqb (w .at) 0 ≡ misplacedNumber (Required low high) (spanText s w)
+  pub missing-required : (low high : ℕ) → eqb (w .at) 0 ≡ missingOrUnknownNumber (Required low high) (spanText s w)
   missing-required low high = go (eqb (w .at) 0)
     where
-      go : (b : Bool) → b ≡ misplacedNumber (Required low high) (cond b none (some (partAt s w)))
+      go : (b : Bool) → b ≡ missingOrUnknownNumber (Required low high) (cond b none (some (partAt s w)))
       go true = refl
       go false = refl
 
-  pub there-constant : (value : ℕ) → not (eqb (w .at) 0) ≡ misplacedNumber (Constant value) (spanText s w)
+  pub never-defaulted : (low high default : ℕ) → false ≡ missingOrUnknownNumber (Defaulted low high default) (spanText s w)
+  never-defaulted low high default = go (eqb (w .at) 0)
+    where
+      go : (b : Bool) → false ≡ missingOrUnknownNumber (Defaulted low high default) (cond b none (some (partAt s w)))
+      go true = refl
+      go false = refl
+
+  pub there-constant : (value : ℕ) → not (eqb (w .at) 0) ≡ missingOrUnknownNumber (Constant value) (spanText s w)
   there-constant value = go (eqb (w .at) 0)
     where
-      go : (b : Bool) → not b ≡ misplacedNumber (Constant value) (cond b none (some (partAt s w)))
+      go : (b : Bool) → not b ≡ missingOrUnknownNumber (Constant value) (cond b none (some (partAt s w)))
       go true = refl
       go false = refl
 
@@ -45,9 +52,9 @@ module _ (s : List ℕ) (w : Span) where
 
   -- ---- byte strings
 
-  pub there-forbidden : not (eqb (w .at) 0) ≡ misplacedBytes Forbidden (spanText s w)
+  pub there-forbidden : not (eqb (w .at) 0) ≡ unknownBytes Forbidden (spanText s w)
   there-forbidden = go (eqb (w .at) 0)
     where
-      go : (b : Bool) → not b ≡ misplacedBytes Forbidden (cond b none (some (partAt s w)))
+      go : (b : Bool) → not b ≡ unknownBytes Forbidden (cond b none (some (partAt s w)))
       go true = refl
       go false = refl

@@ -15,7 +15,7 @@ use Rattle.b64.specs.Lengths.{charsOf}
 use Rattle.b64.proofs.B64Laws.{length-encode}
 use Rattle.decimal.specs.Decimal.{digitsWithin, digits}
 use Rattle.decimal.proofs.DecimalLaws.{by-tens, length-small, length-step, length-pos}
-use Rattle.table.specs.Limits.{Profile, inRange, versionAllowed, editionTwo, room}
+use Rattle.table.specs.Limits.{Profile, inRange, versionAllowed, editionTwo, longestPermitted}
 use Rattle.table.specs.declared.limits.NumberRule.{NumberRule}
 use Rattle.table.specs.declared.limits.NumberRule.the-variants.{Required, Defaulted, Constant}
 use Rattle.table.specs.declared.limits.BytesRule.{BytesRule}
@@ -131,7 +131,7 @@ bounds e f h =
     let «data» = bytes-cost 6 (r .«data») (f .«data») (h .«data») in
     let salt = bytes-cost 1 (r .salt) (f .salt) (h .salt) in
     let output = bytes-cost 1 (r .output) (f .output) (h .output) in
-    (omega arith, λ o. omega (arith, salt .1 (salted (f .salt) (f .output) (h .order) o), output .1 o))
+    (omega arith, λ o. omega (arith, salt .1 (salted (f .salt) (f .output) (h .output-with-salt) o), output .1 o))
 
 -- ---- numbers for the bounds, where a test of the edition's columns shows them
 
@@ -150,7 +150,7 @@ bounds-at e most least kept f h =
 
 -- edition two: ids 1 to 3 are Argon2's
 abbrev pub mostTwo : ℕ → ℕ
-mostTwo k = cond (leb k 3) room 171
+mostTwo k = cond (leb k 3) longestPermitted 171
 
 abbrev pub leastTwo : ℕ → ℕ
 leastTwo k = cond (leb k 3) 49 33
@@ -164,9 +164,9 @@ pub bounds-two : (f : FieldSet) → Allows (here editionTwo f) f
 bounds-two = bounds-at editionTwo mostTwo leastTwo kept-two
 
 -- every string that the writer does not refuse fits the room
-pub most-room : (f : FieldSet) → Allows (here editionTwo f) f → length (formatted editionTwo f) ≤ room
+pub most-room : (f : FieldSet) → Allows (here editionTwo f) f → length (formatted editionTwo f) ≤ longestPermitted
 most-room f h = go (leb (f .numbers .id) 3) (bounds-two f h .0)
   where
-    go : (b : Bool) → length (formatted editionTwo f) ≤ cond b room 171 → length (formatted editionTwo f) ≤ room
+    go : (b : Bool) → length (formatted editionTwo f) ≤ cond b longestPermitted 171 → length (formatted editionTwo f) ≤ longestPermitted
     go true l = l
     go false l = omega arith

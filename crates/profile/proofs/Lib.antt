@@ -17,4 +17,5 @@ pub mod ReadLaws
 pub mod WriterLaws
 pub mod Claims
 pub mod Refusals
+pub mod Versions
 pub mod Promises

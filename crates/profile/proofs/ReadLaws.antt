@@ -30,8 +30,8 @@ use Rattle.grammar.proofs.Reading.{accepted-rows, accepted-starts, optional-abs
 use Rattle.table.specs.Limits.{Profile, idOf, profileOf, editionTwo}
 use Rattle.table.specs.declared.limits.BytesRule.{BytesRule}
 use Rattle.table.specs.declared.version.Version.{Version}
-use Rattle.profile.specs.Fields.{chosen, isSized, isBytes, readNumber, readBytes, readVersion}
-use Rattle.profile.specs.Reader.{names, namedValues, unmatchedItems, valueAt, rowsFor, profileRows, answer, fieldsOf}
+use Rattle.profile.specs.Fields.{chosen, isDecodedSize, isBytes, readNumber, readBytes, readVersion}
+use Rattle.profile.specs.Reader.{parameterNames, namedValues, unmatchedItems, valueAt, rowsFor, profileRows, readerNumber, fieldsOf}
 use Rattle.profile.specs.Entries.{refusedReading, kindOf, reading, decoded}
 use Rattle.profile.specs.ReaderSteps.{spanText, spanTexts, ValuesAre, Judged, chosenText, ParsedIs}
 use Rattle.profile.specs.declared.fields.Reading.{Reading}
@@ -43,16 +43,16 @@ use Rattle.profile.specs.declared.parsed.ParsedString.{ParsedString}
 use Rattle.profile.proofs.Accepted.{params-all}
 use Rattle.profile.proofs.OptionalTextLaws.{optional-none, optional-some}
 
-pub answer-rows : (e : List Profile) (s : List ℕ) → grammarNumber s ≡ 0 → answer e s ≡ firstOf (profileRows e (pieces s))
-unfolding answer
+pub answer-rows : (e : List Profile) (s : List ℕ) → grammarNumber s ≡ 0 → readerNumber e s ≡ firstOf (profileRows e (pieces s))
+unfolding readerNumber
 answer-rows e s z = rows-pass (grammarRows s) (profileRows e (pieces s)) (accepted-rows s z)
 
 -- the number of a string that the grammar refuses
-pub answer-refused : (e : List Profile) (s : List ℕ) (n : ℕ) → grammarNumber s ≡ n → (n ≡ 0 → ⊥) → answer e s ≡ n
-unfolding answer grammarNumber
+pub answer-refused : (e : List Profile) (s : List ℕ) (n : ℕ) → grammarNumber s ≡ n → (n ≡ 0 → ⊥) → readerNumber e s ≡ n
+unfolding readerNumber grammarNumber
 answer-refused e s n q z = rows-stop (grammarRows s) (profileRows e (pieces s)) n (sym q) z
 
-pub reading-refused : (e : List Profile) (s : List ℕ) (n : ℕ) → answer e s ≡ n → (n ≡ 0 → ⊥) → refusedReading n ≡ reading e s
+pub reading-refused : (e : List Profile) (s : List ℕ) (n : ℕ) → readerNumber e s ≡ n → (n ≡ 0 → ⊥) → refusedReading n ≡ reading e s
 unfolding reading
 reading-refused e s n q z = rw (q, ne-eqb n 0 z)
 
@@ -99,7 +99,7 @@ canonical-none = refl
 
 canonical-optional : (r : BytesRule) (o : OptionalText) → violates (isBytes r) o ≡ false → canonical (textOf o) ≡ true
 canonical-optional r none e = canonical-none
-canonical-optional r (some t) e = both (canonical t) (isSized r t) (is-true (isBytes r t) e) .0
+canonical-optional r (some t) e = both (canonical t) (isDecodedSize r t) (is-true (isBytes r t) e) .0
 
 canonical-output : (o : OptionalText) → violates isOutput o ≡ false → canonical (textOf o) ≡ true
 unfolding isOutput
@@ -116,8 +116,8 @@ decode-optional (some t) = refl
 pub record Found (s : List ℕ) (places : Places) (values : Values) (id : ℕ) (version : Version) : Type 0 where
   pub id-is : id ≡ idOf editionTwo (pieces s .id)
   pub version-is : version ≡ readVersion (pieces s .version)
-  pub values-are : spanTexts (partAt s (places .params)) values ≡ namedValues names (itemsOf (pieces s .params))
-  pub unmatched-is : values .unmatched ≡ not (empty (unmatchedItems names (itemsOf (pieces s .params))))
+  pub values-are : spanTexts (partAt s (places .params)) values ≡ namedValues parameterNames (itemsOf (pieces s .params))
+  pub unmatched-is : values .unmatched ≡ not (empty (unmatchedItems parameterNames (itemsOf (pieces s .params))))
   pub salt-is : spanText s (places .salt) ≡ pieces s .salt
   pub output-is : spanText s (places .output) ≡ pieces s .output
 
@@ -130,8 +130,8 @@ found s z places e values id version i v w =
     record {
       id-is = i ∙ ap (λ (x : Places). idOf editionTwo (partAt s (x .id))) e ∙ ap (idOf editionTwo) (piece-part s (accepted-starts s z) Id);
       version-is = v ∙ ap (λ (x : Places). readVersion (spanText s (x .version))) e ∙ ap readVersion (optional-piece s z Piece·Version);
-      values-are = w .found ∙ ap (namedValues names) same-items;
-      unmatched-is = w .unmatched-is ∙ ap (λ (is : List Item). not (empty (unmatchedItems names is))) same-items;
+      values-are = w .found ∙ ap (namedValues parameterNames) same-items;
+      unmatched-is = w .unmatched-is ∙ ap (λ (is : List Item). not (empty (unmatchedItems parameterNames is))) same-items;
       salt-is = ap (λ (x : Places). spanText s (x .salt)) e ∙ optional-piece s z Piece·Salt;
       output-is = ap (λ (x : Places). spanText s (x .output)) e ∙ optional-piece s z Piece·Output;
     }
@@ -148,7 +148,7 @@ module _ (s : List ℕ) (z : grammarNumber s ≡ 0) (places : Places) (values : 
       ≡ profileRows editionTwo (pieces s)
   same-rows = λ i. rowsFor (profileOf editionTwo (f .id-is i)) (f .version-is i) (f .values-are i) (f .unmatched-is i) (f .salt-is i) (f .output-is i)
 
-  pub judged-number : answer editionTwo s ≡ j .number
+  pub judged-number : readerNumber editionTwo s ≡ j .number
   judged-number = answer-rows editionTwo s z ∙ ap firstOf (sym same-rows) ∙ sym (d .number-is)
 
   no-row : j .number ≡ 0 → firstOf (rowsFor (profileOf editionTwo id) version (spanTexts (partAt s (places .params)) values) (values .unmatched) (spanText s (places .salt)) (spanText s (places .output))) ≡ 0
@@ -159,7 +159,7 @@ module _ (s : List ℕ) (z : grammarNumber s ≡ 0) (places : Places) (values : 
       → _≡_ {A = Reading} (record { number = 0; kind = k; fields = record { id = id; version = version; m = j .m; t = j .t; p = j .p } }) (reading editionTwo s)
   unfolding reading fieldsOf
   accepted-reading q k kinds =
-      let a : answer editionTwo s ≡ 0 = judged-number ∙ q in
+      let a : readerNumber editionTwo s ≡ 0 = judged-number ∙ q in
       let n = d .numbers-are (no-row q) in
       let m : j .m ≡ fieldsOf editionTwo s .numbers .m = n .m-is ∙ (λ i. readNumber (profileOf editionTwo (f .id-is i) .m) (valueAt (f .values-are i) 0)) in
       let t : j .t ≡ fieldsOf editionTwo s .numbers .t = n .t-is ∙ (λ i. readNumber (profileOf editionTwo (f .id-is i) .t) (valueAt (f .values-are i) 1)) in
@@ -178,7 +178,7 @@ module _ (s : List ℕ) (z : grammarNumber s ≡ 0) (places : Places) (values : 
       rows = clear (profileRows editionTwo (pieces s)) refl (sym (answer-rows editionTwo s z) ∙ judged-number ∙ q)
 
       vs : List OptionalText
-      vs = namedValues names (itemsOf (pieces s .params))
+      vs = namedValues parameterNames (itemsOf (pieces s .params))
 
       r : Profile
       r = profileOf editionTwo (idOf editionTwo (pieces s .id))
@@ -214,27 +214,31 @@ module _ (s : List ℕ) (z : grammarNumber s ≡ 0) (places : Places) (values : 
 pub parsed-refused : (s : List ℕ) (w : ParsedString) → w .reading ≡ reading editionTwo s → (w .reading .number ≡ 0 → ⊥) → ParsedIs s w
 parsed-refused s w e n = record { reading-is = e; texts = λ z c. absurd (n z) }
 
-pub reading-number : (e : List Profile) (s : List ℕ) → reading e s .number ≡ answer e s
+pub reading-fields : (e : List Profile) (s : List ℕ) → readerNumber e s ≡ 0 → reading e s .fields ≡ fieldsOf e s .numbers
 unfolding reading
-reading-number e s = go (eqb (answer e s) 0) refl
+reading-fields e s z = rw z
+
+pub reading-number : (e : List Profile) (s : List ℕ) → reading e s .number ≡ readerNumber e s
+unfolding reading
+reading-number e s = go (eqb (readerNumber e s) 0) refl
   where
-    go : (b : Bool) → eqb (answer e s) 0 ≡ b
-        → cond b (record { number = 0; kind = kindOf (pieces s .salt) (pieces s .output); fields = fieldsOf e s .numbers }) (refusedReading (answer e s)) .number ≡ answer e s
-    go true q = sym (eqb-true (answer e s) 0 q)
+    go : (b : Bool) → eqb (readerNumber e s) 0 ≡ b
+        → cond b (record { number = 0; kind = kindOf (pieces s .salt) (pieces s .output); fields = fieldsOf e s .numbers }) (refusedReading (readerNumber e s)) .number ≡ readerNumber e s
+    go true q = sym (eqb-true (readerNumber e s) 0 q)
     go false q = refl
 
 module _ (s : List ℕ) (w : ParsedString) (h : ParsedIs s w) (c : ByteString) (buffer : List ℕ) (at : ℕ) where
-  number-is : answer editionTwo s ≡ w .reading .number
+  number-is : readerNumber editionTwo s ≡ w .reading .number
   number-is = sym (ap (λ (r : Reading). r .number) (h .reading-is) ∙ reading-number editionTwo s)
 
   pub bytes-refused : (w .reading .number ≡ 0 → ⊥) → refused (w .reading .number) buffer ≡ decoded editionTwo c s buffer at
   unfolding decoded
-  bytes-refused n = put-refused buffer at (chosen c (fieldsOf editionTwo s)) (answer editionTwo s) (w .reading .number) number-is (omega (arith, n))
+  bytes-refused n = put-refused buffer at (chosen c (fieldsOf editionTwo s)) (readerNumber editionTwo s) (w .reading .number) number-is (omega (arith, n))
 
   pub bytes-decoded : w .reading .number ≡ 0 → (t : List ℕ) → t ≡ chosenText s w c → decoding t buffer at ≡ decoded editionTwo c s buffer at
   unfolding decoded
   bytes-decoded z t q =
       let k = h .texts z c in
-      let n : decodeNumber t ≡ answer editionTwo s = ap decodeNumber q ∙ ap (λ (b : Bool). cond b 0 12) (k .0) ∙ sym (number-is ∙ z) in
+      let n : decodeNumber t ≡ readerNumber editionTwo s = ap decodeNumber q ∙ ap (λ (b : Bool). cond b 0 12) (k .0) ∙ sym (number-is ∙ z) in
       let d : decode t ≡ chosen c (fieldsOf editionTwo s) = ap decode q ∙ k .1 in
       λ i. putAfter (n i) buffer at (d i)

@@ -13,7 +13,7 @@ use Rattle.text.proofs.Lists.{same-eq}
 use Rattle.text.proofs.Table.{every-at}
 use Rattle.grammar.specs.Bytes.{isNameByte, isText}
 use Rattle.grammar.specs.Rules.{isName}
-use Rattle.table.specs.Limits.{Profile, inRange, versionAllowed, next, idOf, noProfile, profileOf, editionTwo, fewKilobytes}
+use Rattle.table.specs.Limits.{Profile, inRange, versionAllowed, next, idOf, noProfile, profileOf, editionTwo, memoryTooLittle}
 use Rattle.profile.specs.Sound.{soundNumber, soundBytes, soundOutput, soundVersions, soundAt, sound, defaultsAt, defaultsSound}
 
 -- ---- a test on each column
@@ -77,7 +77,7 @@ pub record SoundDefaults (r : Profile) : Type 0 where
   pub m : inRange (r .m) (r .defaults .m) ≡ true
   pub t : inRange (r .t) (r .defaults .t) ≡ true
   pub p : inRange (r .p) (r .defaults .p) ≡ true
-  pub lanes : fewKilobytes (r .defaults .m) (r .defaults .p) ≡ false
+  pub lanes : memoryTooLittle (r .defaults .m) (r .defaults .p) ≡ false
 
 sound-defaults : (k : ℕ) (r : Profile) → r .known ≡ true → defaultsAt k r ≡ true → SoundDefaults r
 sound-defaults k r known h₀ =
@@ -85,8 +85,8 @@ sound-defaults k r known h₀ =
     let h₁ = both (versionAllowed (r .versions) (u .version)) _ (implied (r .known) _ h₀ known) in
     let h₂ = both (inRange (r .m) (u .m)) _ (h₁ .1) in
     let h₃ = both (inRange (r .t) (u .t)) _ (h₂ .1) in
-    let h₄ = both (inRange (r .p) (u .p)) (not (fewKilobytes (u .m) (u .p))) (h₃ .1) in
-    record { version = h₁ .0; m = h₂ .0; t = h₃ .0; p = h₄ .0; lanes = is-false (fewKilobytes (u .m) (u .p)) (h₄ .1) }
+    let h₄ = both (inRange (r .p) (u .p)) (not (memoryTooLittle (u .m) (u .p))) (h₃ .1) in
+    record { version = h₁ .0; m = h₂ .0; t = h₃ .0; p = h₄ .0; lanes = is-false (memoryTooLittle (u .m) (u .p)) (h₄ .1) }
 
 pub defaults-at : (e : List Profile) → defaultsSound e ≡ true → (k : ℕ) → profileOf e k .known ≡ true → SoundDefaults (profileOf e k)
 unfolding defaultsSound

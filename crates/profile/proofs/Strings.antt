@@ -8,10 +8,10 @@ use Rattle.grammar.specs.Bytes.{isNameByte, isValueByte, isText}
 use Rattle.grammar.specs.Pieces.{pieces}
 use Rattle.grammar.specs.Rules.{isItem, isParams, versionReading, isVersion, isOutput, badString}
 use Rattle.table.specs.Limits.{editionTwo}
-use Rattle.profile.specs.Reader.{answer, fieldsOf}
+use Rattle.profile.specs.Reader.{readerNumber, fieldsOf}
 use Rattle.profile.specs.Entries.{reading}
 use Rattle.profile.specs.Claims.{Examples}
 
 pub examples : Examples
-unfolding reading fieldsOf answer editionTwo badString pieces isItem isParams isVersion versionReading isOutput isText isNameByte isValueByte isDigit limitedReading numeral isDecimal decimalValue isUnsigned value valueFrom canonical lowBitsZero sextet decode
+unfolding reading fieldsOf readerNumber editionTwo badString pieces isItem isParams isVersion versionReading isOutput isText isNameByte isValueByte isDigit limitedReading numeral isDecimal decimalValue isUnsigned value valueFrom canonical lowBitsZero sextet decode
 examples = record { numbers = refl; reached = refl }

@@ -12,7 +12,7 @@ use Rattle.grammar.specs.Pieces.{OptionalText}
 use Rattle.grammar.specs.Items.{Item, itemText, paramsText}
 use Rattle.table.specs.Limits.{Profile, profileOf}
 use Rattle.profile.specs.Fields.{FieldSet, writeNumber, writeBytes, writeVersion}
-use Rattle.profile.specs.Reader.{names}
+use Rattle.profile.specs.Reader.{parameterNames}
 use Rattle.profile.specs.Writer.{item, itemList, fieldValues, fieldPieces, formatted}
 use Rattle.profile.specs.PieceTexts.{tagged, taggedLength, itemsText, dollared, piecesText, piecesLength}
 
@@ -34,7 +34,7 @@ params-marked (i ∷ is) = ap (λ (l : List ℕ). 36 ∷ l) (join-marked 44 (ite
 
 -- ---- the items and the pieces
 
-items-are : (r : Profile) (f : FieldSet) → marked 44 (map itemText (itemList names (fieldValues r f))) ≡ itemsText r (f .numbers) (f .keyid) (f .«data»)
+items-are : (r : Profile) (f : FieldSet) → marked 44 (map itemText (itemList parameterNames (fieldValues r f))) ≡ itemsText r (f .numbers) (f .keyid) (f .«data»)
 items-are r f =
     let n = f .numbers in
     let «data» = item (text "data") (writeBytes (f .«data»)) ++ [] in
@@ -54,7 +54,7 @@ pub formatted-is : (e : List Profile) (f : FieldSet) → formatted e f ≡ piece
 unfolding formatted fieldPieces
 formatted-is e f =
     let r = profileOf e (f .numbers .id) in
-    let params = paramsText (itemList names (fieldValues r f)) in
+    let params = paramsText (itemList parameterNames (fieldValues r f)) in
     let output = listOf (writeBytes (f .output)) ++ [] in
     let salt = listOf (writeBytes (f .salt)) ++ output in
     let rest = listOf params ++ salt in
@@ -64,7 +64,7 @@ formatted-is e f =
       optional-marked params salt,
       optional-marked (writeBytes (f .salt)) output,
       optional-marked (writeBytes (f .output)) [],
-      params-marked (itemList names (fieldValues r f)),
+      params-marked (itemList parameterNames (fieldValues r f)),
       items-are r f,
       append-nil (tagged (text "$") (writeBytes (f .output))),
     ) (append-five (36 ∷ r .name) (tagged (text "$") (writeVersion (f .numbers .version))) (dollared (itemsText r (f .numbers) (f .keyid) (f .«data»))) (tagged (text "$") (writeBytes (f .salt))) (tagged (text "$") (writeBytes (f .output))))

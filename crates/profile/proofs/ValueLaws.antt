@@ -20,7 +20,7 @@ use Rattle.grammar.specs.declared.places.Span.{Span}
 use Rattle.grammar.specs.declared.item_places.ItemPlace.{ItemPlace}
 use Rattle.grammar.proofs.ItemLaws.{items-start}
 use Rattle.grammar.proofs.ItemPlaces.{items-past, items-found, kept-value-at}
-use Rattle.profile.specs.Reader.{names, named, namedValues, unmatchedItems}
+use Rattle.profile.specs.Reader.{parameterNames, named, namedValues, unmatchedItems}
 use Rattle.profile.specs.ReaderSteps.{spanText, ValueStep, spanTexts, ValuesAre}
 use Rattle.profile.specs.declared.values.Values.{Values}
 use Rattle.profile.proofs.OptionalTextLaws.{optional-some}
@@ -73,15 +73,15 @@ module _ (s : List ℕ) (m t p keyid «data» : Span) (n₁ n₂ n₃ n₄ n₅ 
   abbrev values : Values
   values = record { m = m; t = t; p = p; keyid = keyid; «data» = «data»; unmatched = leb n₅ (length s) }
 
-  found-all : namedValues names (items s) ≡ spanTexts s values
+  found-all : namedValues parameterNames (items s) ≡ spanTexts s values
   found-all =
-      ap (namedValues names) (items-start s)
-      ∙ values-on a (drop 1 names) _ (values-on b (drop 2 names) _ (values-on c (drop 3 names) _ (values-on d (drop 4 names) _ (values-on e [] [] refl))))
+      ap (namedValues parameterNames) (items-start s)
+      ∙ values-on a (drop 1 parameterNames) _ (values-on b (drop 2 parameterNames) _ (values-on c (drop 3 parameterNames) _ (values-on d (drop 4 parameterNames) _ (values-on e [] [] refl))))
 
-  left-all : unmatchedItems names (items s) ≡ itemsFrom s n₅
+  left-all : unmatchedItems parameterNames (items s) ≡ itemsFrom s n₅
   left-all =
-      ap (unmatchedItems names) (items-start s)
-      ∙ unmatched-on a (drop 1 names) _ (unmatched-on b (drop 2 names) _ (unmatched-on c (drop 3 names) _ (unmatched-on d (drop 4 names) _ (unmatched-on e [] _ refl))))
+      ap (unmatchedItems parameterNames) (items-start s)
+      ∙ unmatched-on a (drop 1 parameterNames) _ (unmatched-on b (drop 2 parameterNames) _ (unmatched-on c (drop 3 parameterNames) _ (unmatched-on d (drop 4 parameterNames) _ (unmatched-on e [] _ refl))))
 
   pub values-are : ValuesAre s (items s) values
   values-are =

@@ -15,10 +15,10 @@ use Rattle.text.proofs.Writing.{put-clear}
 use Rattle.text.proofs.Lists.{length-filled}
 use Rattle.text.proofs.Writers.{Asked}
 use Rattle.b64.specs.B64.{encode}
-use Rattle.table.specs.Limits.{Profile, isSize, editionTwo, room}
+use Rattle.table.specs.Limits.{Profile, isSize, editionTwo, longestPermitted}
 use Rattle.table.specs.declared.limits.BytesRule.{BytesRule}
 use Rattle.profile.specs.Fields.{FieldSet, writeBytes}
-use Rattle.profile.specs.Writer.{bytesAllowed, columnRows, refusal, formatted}
+use Rattle.profile.specs.Writer.{bytesAllowed, columnRows, writerNumber, formatted}
 use Rattle.profile.specs.Entries.{writing}
 use Rattle.profile.specs.PieceTexts.{dollared, piecesText, piecesLength}
 use Rattle.profile.proofs.Allows.{here, allowed}
@@ -59,8 +59,8 @@ sized-allowed r (b ∷ bs) n = refl
 -- ---- the whole string, by the column r of its id; no row applies
 
 module _ (f : FieldSet) (r : Profile) (q : r ≡ here editionTwo f) (z : firstOf (columnRows r f) ≡ 0) where
-  pub clear-by : refusal editionTwo f ≡ 0
-  unfolding refusal
+  pub clear-by : writerNumber editionTwo f ≡ 0
+  unfolding writerNumber
   clear-by = ap (λ (k : Profile). firstOf (columnRows k f)) (sym q) ∙ z
 
   pub text-by : formatted editionTwo f ≡ piecesText r f
@@ -69,7 +69,7 @@ module _ (f : FieldSet) (r : Profile) (q : r ≡ here editionTwo f) (z : firstOf
   length-by : length (formatted editionTwo f) ≡ piecesLength r f
   length-by = formatted-length editionTwo f ∙ ap (λ (k : Profile). piecesLength k f) (sym q)
 
-  pub fits-room : piecesLength r f ≤ room
+  pub fits-room : piecesLength r f ≤ longestPermitted
   fits-room = omega (arith, length-by, most-room f (allowed editionTwo f clear-by))
 
   -- the room is asked for by the length that the column says
@@ -79,4 +79,4 @@ module _ (f : FieldSet) (r : Profile) (q : r ≡ here editionTwo f) (z : firstOf
 
   pub writing-clear : (buf : List ℕ) (at : ℕ) → writing editionTwo f buf at ≡ put buf at (formatted editionTwo f)
   unfolding writing
-  writing-clear buf at = put-clear buf at (formatted editionTwo f) (refusal editionTwo f) clear-by
+  writing-clear buf at = put-clear buf at (formatted editionTwo f) (writerNumber editionTwo f) clear-by

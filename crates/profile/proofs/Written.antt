@@ -9,7 +9,7 @@ use native.Mathlib.Omega.{arith}
 use lib.Dec.{leb, eqb}
 use lib.ListN.{length}
 use borrow.Author.Tests.{le-leb}
-use Rattle.text.specs.Text.{text, all, has, same, empty, listOf, violates, Frees, Fails, Fits}
+use Rattle.text.specs.Text.{text, all, has, same, empty, listOf, violates, NoneHas, Fails, Fits}
 use Rattle.text.proofs.Tests.{both, and-true, neither, or-false, not-of-true, is-true, is-false}
 use Rattle.text.proofs.Rows.{Clear, zero-of, clear-append}
 use Rattle.text.proofs.Lists.{not-in, has-middle}
@@ -28,12 +28,12 @@ use Rattle.grammar.proofs.PieceLaws.{pieces-string}
 use Rattle.grammar.proofs.Reading.{bad-string-first}
 use Rattle.grammar.proofs.Longest.{at-most}
 use Rattle.grammar.proofs.ValueBytes.{canonical-values}
-use Rattle.table.specs.Limits.{Profile, versionAllowed, profileOf, fewKilobytes}
+use Rattle.table.specs.Limits.{Profile, versionAllowed, profileOf, memoryTooLittle}
 use Rattle.table.specs.declared.limits.BytesRule.{BytesRule}
 use Rattle.table.specs.declared.version.Version.{Version}
 use Rattle.table.specs.declared.version.Version.the-variants.{Absent, Number}
 use Rattle.profile.specs.Fields.{FieldSet, writeNumber, writeBytes, writeVersion}
-use Rattle.profile.specs.Reader.{names, namedValues, unmatchedItems, rowsFor, profileRows, answer, fieldsFor, carried, fieldsOf}
+use Rattle.profile.specs.Reader.{parameterNames, namedValues, unmatchedItems, rowsFor, profileRows, readerNumber, fieldsFor, fieldsOfPieces, fieldsOf}
 use Rattle.profile.specs.Writer.{Permitted, itemList, fieldValues, fieldPieces, formatted}
 use Rattle.profile.specs.Sound.{sound}
 use Rattle.profile.proofs.Codecs.{digits-values, NumberWritten, number-forth, BytesWritten, bytes-forth, written-value, written-output, VersionWritten, version-forth}
@@ -59,7 +59,7 @@ all-good (n ∷ ns) (some v ∷ vs) e g =
     let q = both (goodName n) (all goodName ns) e in
     and-true (and-true (q .0) (is-true (isValue v) (g .0))) (all-good ns vs (q .1) (g .1))
 
-names-good : all goodName names ≡ true
+names-good : all goodName parameterNames ≡ true
 unfolding isNameByte isText
 names-good = refl
 
@@ -145,7 +145,7 @@ abbrev Free : OptionalText → Type 0
 Free none = Unit {0}
 Free (some t) = has 36 t ≡ false
 
-add-free : (s : OptionalText) (l : List (List ℕ)) → Free s → Frees 36 l → Frees 36 (listOf s ++ l)
+add-free : (s : OptionalText) (l : List (List ℕ)) → Free s → NoneHas 36 l → NoneHas 36 (listOf s ++ l)
 add-free none l h k = k
 add-free (some t) l h k = (h, k)
 
@@ -182,7 +182,7 @@ module _ (e : List Profile) (ok : sound e ≡ true) where
     m : NumberWritten (r .m) (f .numbers .m) (writeNumber (r .m) (f .numbers .m))
     t : NumberWritten (r .t) (f .numbers .t) (writeNumber (r .t) (f .numbers .t))
     p : NumberWritten (r .p) (f .numbers .p) (writeNumber (r .p) (f .numbers .p))
-    lanes : fewKilobytes (f .numbers .m) (f .numbers .p) ≡ false
+    lanes : memoryTooLittle (f .numbers .m) (f .numbers .p) ≡ false
     keyid : BytesWritten longestValue (r .keyid) (f .keyid) (writeBytes (f .keyid))
     «data» : BytesWritten longestValue (r .«data») (f .«data») (writeBytes (f .«data»))
     salt : BytesWritten longestValue (r .salt) (f .salt) (writeBytes (f .salt))
@@ -216,12 +216,12 @@ module _ (e : List Profile) (ok : sound e ≡ true) where
         «data» = bytes-forth longestValue (r .«data») (f .«data») (E .«data») (b .1) (h .«data»);
         salt = bytes-forth longestValue (r .salt) (f .salt) (E .salt) (b .2) (h .salt);
         output = bytes-forth (longestOutput .0) (r .output) (f .output) (E .output) (b .3) (h .output);
-        order = after (f .salt) (f .output) (h .order);
+        order = after (f .salt) (f .output) (h .output-with-salt);
       }
 
-  items-good : (f : FieldSet) (r : Profile) → Facts f r → all isItem (itemList names (fieldValues r f)) ≡ true
+  items-good : (f : FieldSet) (r : Profile) → Facts f r → all isItem (itemList parameterNames (fieldValues r f)) ≡ true
   items-good f r h =
-      all-good names (fieldValues r f) names-good
+      all-good parameterNames (fieldValues r f) names-good
       (h .m .good, (h .t .good, (h .p .good, (value (h .keyid), (value (h .«data»), tt)))))
 
   -- ---- the grammar's side
@@ -230,7 +230,7 @@ module _ (e : List Profile) (ok : sound e ≡ true) where
   unfolding fieldPieces isNameByte isValueByte
   sorts f h =
       let r = profileOf e (f .numbers .id) in
-      let is = itemList names (fieldValues r f) in
+      let is = itemList parameterNames (fieldValues r f) in
       let g = items-good f r h in
       let salt = writeBytes (f .salt) in
       let output = writeBytes (f .output) in
@@ -250,8 +250,8 @@ module _ (e : List Profile) (ok : sound e ≡ true) where
   unfolding fieldPieces
   grammar-clear f h =
       let r = profileOf e (f .numbers .id) in
-      let is = itemList names (fieldValues r f) in
-      let k = few names (fieldValues r f) in (
+      let is = itemList parameterNames (fieldValues r f) in
+      let k = few parameterNames (fieldValues r f) in (
         not-of-true (h .column .named),
         (
           h .version .version,
@@ -290,12 +290,12 @@ module _ (e : List Profile) (ok : sound e ≡ true) where
 
   -- what the pieces are read as
   read-as : (f : FieldSet) (r : Profile) → Facts f r
-      → (namedValues names (itemsOf (paramsText (itemList names (fieldValues r f)))) ≡ fieldValues r f)
-      × (unmatchedItems names (itemsOf (paramsText (itemList names (fieldValues r f)))) ≡ [])
+      → (namedValues parameterNames (itemsOf (paramsText (itemList parameterNames (fieldValues r f)))) ≡ fieldValues r f)
+      × (unmatchedItems parameterNames (itemsOf (paramsText (itemList parameterNames (fieldValues r f)))) ≡ [])
   read-as f r h =
-      let q = items-params (itemList names (fieldValues r f)) (items-good f r h) in
-      let k = values-list names (fieldValues r f) refl tt in
-      (ap (namedValues names) q ∙ k .0, ap (unmatchedItems names) q ∙ k .1)
+      let q = items-params (itemList parameterNames (fieldValues r f)) (items-good f r h) in
+      let k = values-list parameterNames (fieldValues r f) refl tt in
+      (ap (namedValues parameterNames) q ∙ k .0, ap (unmatchedItems parameterNames) q ∙ k .1)
 
   profile-clear : (f : FieldSet) → Facts f (profileOf e (f .numbers .id)) → Clear (profileRows e (fieldPieces e f))
   unfolding fieldPieces
@@ -306,13 +306,13 @@ module _ (e : List Profile) (ok : sound e ≡ true) where
       (λ i. rowsFor (profileOf e (sym (h .column .found) i)) (sym (h .version .reads) i) (sym (q .0) i) (not (empty (sym (q .1) i))) (writeBytes (f .salt)) (writeBytes (f .output)))
       (rows-clear f h)
 
-  carried-back : (f : FieldSet) → Facts f (profileOf e (f .numbers .id)) → carried e (fieldPieces e f) ≡ f
+  carried-back : (f : FieldSet) → Facts f (profileOf e (f .numbers .id)) → fieldsOfPieces e (fieldPieces e f) ≡ f
   unfolding fieldPieces
   carried-back f h =
       let n = f .numbers in
       let r = profileOf e (n .id) in
       let q = read-as f r h in
-      let same-pieces : carried e (fieldPieces e f) ≡ fieldsFor r (n .id) (n .version) (fieldValues r f) (writeBytes (f .salt)) (writeBytes (f .output)) =
+      let same-pieces : fieldsOfPieces e (fieldPieces e f) ≡ fieldsFor r (n .id) (n .version) (fieldValues r f) (writeBytes (f .salt)) (writeBytes (f .output)) =
       λ i. fieldsFor (profileOf e (h .column .found i)) (h .column .found i) (h .version .reads i) (q .0 i) (writeBytes (f .salt)) (writeBytes (f .output)) in
       let same-fields : fieldsFor r (n .id) (n .version) (fieldValues r f) (writeBytes (f .salt)) (writeBytes (f .output)) ≡ f =
       λ i. record {
@@ -329,8 +329,8 @@ module _ (e : List Profile) (ok : sound e ≡ true) where
   unfolding formatted
   pieces-of f permitted = pieces-string (fieldPieces e f) (sorts f (facts f permitted))
 
-  pub written : (f : FieldSet) → Permitted e f → (answer e (formatted e f) ≡ 0) × (fieldsOf e (formatted e f) ≡ f)
-  unfolding answer fieldsOf formatted
+  pub written : (f : FieldSet) → Permitted e f → (readerNumber e (formatted e f) ≡ 0) × (fieldsOf e (formatted e f) ≡ f)
+  unfolding readerNumber fieldsOf formatted
   written f permitted =
       let h = facts f permitted in
       let p = fieldPieces e f in
@@ -340,5 +340,5 @@ module _ (e : List Profile) (ok : sound e ≡ true) where
       let k = subst (λ (p : Pieces). Clear (profileRows e p)) (sym q) (profile-clear f h) in
       let w = bad-string-first s (omega arith) (at-most p (zero-of (pieceRows p) (grammar-clear f h))) in (
         zero-of (grammarRows s ++ profileRows e (pieces s)) (clear-append (grammarRows s) (profileRows e (pieces s)) (w, g) k),
-        ap (carried e) q ∙ carried-back f h,
+        ap (fieldsOfPieces e) q ∙ carried-back f h,
       )

@@ -1,5 +1,5 @@
 -- The promises: the record `Promises`, at the end, says what is proved of document 01's table, and proofs/Promises.antt has its one value. Its
--- parts stand above it, over any edition where they can be; of `Demand3` in specs/Spelling.antt.
+-- parts stand above it, over any edition where they can be; `Demand3` stands in specs/Spelling.antt.
 -- Assumes nothing.
 use Prim.Native.Nat.{ℕ, _+_, _*_, _≤_}
 use Prim.Native.String.{String}
@@ -11,54 +11,58 @@ use lib.Dec.{eqb}
 use lib.ListN.{length}
 use Rattle.text.specs.Text.{text, within, all, has, empty, isByte}
 use Rattle.text.specs.Place.{outcome, over, Refuses}
-use Rattle.table.specs.Limits.{Profile, editionTwo, room}
-use Rattle.profile.specs.Fields.{FieldSet, chosen, writeBytes}
-use Rattle.profile.specs.Reader.{answer, fieldsOf}
-use Rattle.profile.specs.Writer.{OfBytes, Permitted, formatted, shortFields, shortRefusal}
+use Rattle.grammar.specs.Claims.{GrammarRefusals}
+use Rattle.table.specs.Limits.{Profile, editionTwo, longestPermitted}
+use Rattle.table.specs.declared.version.Version.the-variants.{Absent, Number}
+use Rattle.profile.specs.Fields.{FieldSet, fieldSet, chosen, writeBytes}
+use Rattle.profile.specs.Reader.{readerNumber, fieldsOf}
+use Rattle.profile.specs.Writer.{OfBytes, Permitted, formatted, shortFields, shortWriterNumber}
 use Rattle.profile.specs.Entries.{refusedReading, reading, kindOf, algorithmVersion, decoded, writing, shortWriting}
 use Rattle.profile.specs.Spelling.{Spelling, Demand3}
 use Rattle.profile.specs.Strings.{boundaryStrings, extremes}
 use Rattle.profile.specs.declared.fields.ByteString.{ByteString}
 
--- ---- demand 1: what a refusal is
+-- ---- demand 1
 
--- the profile reader's numbers, the byte-string entry's, the writer's, and the short writer's
-abbrev pub readerNumber : ℕ → Bool
-readerNumber n = within 1 15 n
+-- whether a number is one of the profile reader's, of the byte-string entry's, of the writer's, and of the short writer's
+abbrev pub isReaderNumber : ℕ → Bool
+isReaderNumber n = within 1 15 n
 
-abbrev pub byteStringNumber : ℕ → Bool
-byteStringNumber n = within 1 15 n || eqb n 17
+abbrev pub isByteStringNumber : ℕ → Bool
+isByteStringNumber n = within 1 15 n || eqb n 17
 
 abbrev pub writerNumbers : List ℕ
 writerNumbers = 8 ∷ 9 ∷ 11 ∷ 12 ∷ 14 ∷ 15 ∷ 16 ∷ 17 ∷ []
 
-abbrev pub writerNumber : ℕ → Bool
-writerNumber n = has n writerNumbers
+abbrev pub isWriterNumber : ℕ → Bool
+isWriterNumber n = has n writerNumbers
 
 abbrev pub shortWriterNumbers : List ℕ
 shortWriterNumbers = 8 ∷ 14 ∷ 15 ∷ 16 ∷ 17 ∷ []
 
-abbrev pub shortWriterNumber : ℕ → Bool
-shortWriterNumber n = has n shortWriterNumbers
+abbrev pub isShortWriterNumber : ℕ → Bool
+isShortWriterNumber n = has n shortWriterNumbers
 
--- an all-zero record, version absent; no count, and the buffer as it was
+-- 'Bad input gets a number from document 01's list and an all-zero record; an entry that hands back a part hands back an empty one; no byte of a
+-- lent buffer changes': an all-zero record has no version; a refusal into a buffer counts 0
 pub record Demand1 (e : List Profile) : Type 0 where
   pub read : (s : List ℕ) → reading e s .number ≢ 0
-      → (readerNumber (reading e s .number) ≡ true) × (reading e s ≡ refusedReading (reading e s .number))
-  pub algorithm-version : (s : List ℕ) → algorithmVersion e s .number ≢ 0
-      → (readerNumber (algorithmVersion e s .number) ≡ true) × (algorithmVersion e s .version ≡ 0)
-  pub byte-string : (c : ByteString) (s buffer : List ℕ) (at : ℕ) → Refuses byteStringNumber buffer (decoded e c s buffer at)
-  pub write : (f : FieldSet) (buffer : List ℕ) (at : ℕ) → Refuses writerNumber buffer (writing e f buffer at)
-  pub write-short : (k : ℕ) (salt output buffer : List ℕ) (at : ℕ) → Refuses shortWriterNumber buffer (shortWriting e k salt output buffer at)
+      → (isReaderNumber (reading e s .number) ≡ true) × (reading e s ≡ refusedReading (reading e s .number))
+  pub algorithm-version : (s : List ℕ) → reading e s .number ≢ 0 → algorithmVersion e s ≡ record { number = reading e s .number; version = 0 }
+  pub byte-string : (c : ByteString) (s buffer : List ℕ) (at : ℕ) → Refuses isByteStringNumber buffer (decoded e c s buffer at)
+  pub write : (f : FieldSet) (buffer : List ℕ) (at : ℕ) → Refuses isWriterNumber buffer (writing e f buffer at)
+  pub write-short : (k : ℕ) (salt output buffer : List ℕ) (at : ℕ) → Refuses isShortWriterNumber buffer (shortWriting e k salt output buffer at)
+  -- the grammar reader, and the parts
+  pub grammar : GrammarRefusals
 
 -- ---- demand 3
 
--- the spelling that an edition's rules are
+-- the rules of an edition as a spelling
 abbrev pub ruleSpelling : List Profile → Spelling
 ruleSpelling e =
     record {
-      Accepted = λ (s : List ℕ). answer e s ≡ 0;
-      Carries = λ (s : List ℕ) (f : FieldSet). (answer e s ≡ 0) × (fieldsOf e s ≡ f);
+      Accepted = λ (s : List ℕ). readerNumber e s ≡ 0;
+      Carries = λ (s : List ℕ) (f : FieldSet). (readerNumber e s ≡ 0) × (fieldsOf e s ≡ f);
       Permitted = Permitted e;
       WrittenTo = λ (f : FieldSet) (s : List ℕ). formatted e f ≡ s;
     }
@@ -67,11 +71,11 @@ ruleSpelling e =
 abbrev pub WrittenAt : List Profile → FieldSet → List ℕ → List ℕ → ℕ → Type 0
 WrittenAt e f s buffer at = writing e f buffer at ≡ outcome 0 (length s) (over buffer at s)
 
--- by a call with room for any string of edition two; 'its room counts from its place'
+-- by a call with at least 265 bytes of room; 'its room counts from its place'
 pub record WrittenTo (e : List Profile) (f : FieldSet) (s : List ℕ) : Type 0 where
   pub buffer : List ℕ
   pub place : ℕ
-  pub has-room : place + room ≤ length buffer
+  pub has-room : place + longestPermitted ≤ length buffer
   pub written : WrittenAt e f s buffer place
 
 -- a string carries fields (01): the profile reader gives the number fields, the byte-string entry each byte string where it fits
@@ -80,7 +84,7 @@ pub record Carries (e : List Profile) (s : List ℕ) (f : FieldSet) : Type 0 whe
   pub strings : (c : ByteString) (buffer : List ℕ) (at : ℕ) → at + length (chosen c f) ≤ length buffer
       → decoded e c s buffer at ≡ outcome 0 (length (chosen c f)) (over buffer at (chosen c f))
 
--- the spelling that the outcomes are which the contracts of the profile reader, the byte-string entry and the writer name
+-- the profile reader, the byte-string entry and the writer as a spelling, by the outcomes that their contracts name
 abbrev pub entrySpelling : List Profile → Spelling
 entrySpelling e =
     record { Accepted = λ (s : List ℕ). reading e s .number ≡ 0; Carries = Carries e; Permitted = Permitted e; WrittenTo = WrittenTo e }
@@ -89,11 +93,11 @@ pub record EntriesDemand3 (e : List Profile) : Type 0 where
   pub demand-3 : Demand3 (entrySpelling e)
   -- what one call with the room writes, every such call does
   pub every-call : (f : FieldSet) (s : List ℕ) → Permitted e f → WrittenTo e f s
-      → (buffer : List ℕ) (at : ℕ) → at + room ≤ length buffer → WrittenAt e f s buffer at
+      → (buffer : List ℕ) (at : ℕ) → at + longestPermitted ≤ length buffer → WrittenAt e f s buffer at
 
 -- ---- the entries among each other
 
--- and fields that go out come back
+-- fields that are written are read back
 pub record EntriesAgree (e : List Profile) : Type 0 where
   -- the writer answers 0 exactly for permitted fields whose string fits, and what it wrote is that string
   pub writes : (f : FieldSet) → Permitted e f → (buffer : List ℕ) (at : ℕ) → at + length (formatted e f) ≤ length buffer
@@ -108,24 +112,45 @@ pub record EntriesAgree (e : List Profile) : Type 0 where
 -- the short writer gives what the writer gives for its defaults, no keyid and no data; and where it writes, these are permitted
 pub record ShortAgrees (e : List Profile) : Type 0 where
   pub writes : (k : ℕ) (salt output buffer : List ℕ) (at : ℕ) → shortWriting e k salt output buffer at ≡ writing e (shortFields e k salt output) buffer at
-  pub permitted : (k : ℕ) (salt output : List ℕ) → shortRefusal e k salt output ≡ 0 → all isByte salt ≡ true → all isByte output ≡ true
+  pub permitted : (k : ℕ) (salt output : List ℕ) → shortWriterNumber e k salt output ≡ 0 → all isByte salt ≡ true → all isByte output ≡ true
       → Permitted e (shortFields e k salt output)
 
--- the customer's own sentence: every accepted Argon2 string has at least one lane, and eight kilobytes for each
+-- 'The short writer takes id, salt and output and uses version 19, m=65536, t=2, p=1 for Argon2, t=20,000 for pbkdf2, no keyid, no data': of the
+-- ids 1 to 3, and 4 and 5
+pub record ShortFields : Type 0 where
+  pub argon2 : (salt output : List ℕ)
+      → map (λ (k : ℕ). shortFields editionTwo k salt output) (1 ∷ 2 ∷ 3 ∷ [])
+      ≡ map (λ (k : ℕ). fieldSet (record { id = k; version = Number 19; m = 65536; t = 2; p = 1 }) [] [] salt output) (1 ∷ 2 ∷ 3 ∷ [])
+  pub pbkdf2 : (salt output : List ℕ)
+      → map (λ (k : ℕ). shortFields editionTwo k salt output) (4 ∷ 5 ∷ [])
+      ≡ map (λ (k : ℕ). fieldSet (record { id = k; version = Absent; m = 0; t = 20000; p = 0 }) [] [] salt output) (4 ∷ 5 ∷ [])
+
+-- 'Asked which algorithm version an accepted Argon2 string means, the answer is the written number, or 19 where none is written; for pbkdf2 it is
+-- 0'
+pub record AlgorithmVersions : Type 0 where
+  pub written : (s : List ℕ) (n : ℕ) → reading editionTwo s .number ≡ 0 → reading editionTwo s .fields .version ≡ Number n
+      → algorithmVersion editionTwo s ≡ record { number = 0; version = n }
+  pub argon2-absent : (s : List ℕ) → reading editionTwo s .number ≡ 0 → reading editionTwo s .fields .id ≤ 3 → reading editionTwo s .fields .version ≡ Absent
+      → algorithmVersion editionTwo s ≡ record { number = 0; version = 19 }
+  pub pbkdf2 : (s : List ℕ) → reading editionTwo s .number ≡ 0 → 4 ≤ reading editionTwo s .fields .id
+      → algorithmVersion editionTwo s ≡ record { number = 0; version = 0 }
+
+-- every accepted Argon2 string has at least one lane, and eight kilobytes for each; ids 1 to 3 are Argon2's
 pub record Lanes : Type 0 where
   pub lane : (s : List ℕ) → reading editionTwo s .number ≡ 0 → reading editionTwo s .fields .id ≤ 3
       → (1 ≤ reading editionTwo s .fields .p) × (8 * reading editionTwo s .fields .p ≤ reading editionTwo s .fields .m)
 
--- the longest strings, and the shortest hash strings; ids 1 to 3 are Argon2's
+-- 'Longest Argon2 string 265 bytes, shortest Argon2 hash string 49; for pbkdf2 hash strings 171 and 33': of the strings that permitted fields are
+-- written to, which by demand 3 are the accepted ones
 pub record Lengths : Type 0 where
-  pub any-most : (f : FieldSet) → Permitted editionTwo f → length (formatted editionTwo f) ≤ room
+  pub any-most : (f : FieldSet) → Permitted editionTwo f → length (formatted editionTwo f) ≤ 265
   pub argon2-least : (f : FieldSet) → Permitted editionTwo f → f .numbers .id ≤ 3 → empty (f .output) ≡ false → 49 ≤ length (formatted editionTwo f)
   pub pbkdf2-most : (f : FieldSet) → Permitted editionTwo f → 4 ≤ f .numbers .id → length (formatted editionTwo f) ≤ 171
   pub pbkdf2-least : (f : FieldSet) → Permitted editionTwo f → 4 ≤ f .numbers .id → empty (f .output) ≡ false → 33 ≤ length (formatted editionTwo f)
 
 -- document 01's strings have their numbers; and accepted hash strings reach the bounds on lengths
 pub record Examples : Type 0 where
-  pub numbers : map (λ (x : String × ℕ). answer editionTwo (text (x .0))) boundaryStrings ≡ map (λ (x : String × ℕ). x .1) boundaryStrings
+  pub numbers : map (λ (x : String × ℕ). readerNumber editionTwo (text (x .0))) boundaryStrings ≡ map (λ (x : String × ℕ). x .1) boundaryStrings
   pub reached : map {B = ℕ × ℕ × ℕ} (λ (x : String × ℕ). (reading editionTwo (text (x .0)) .number, reading editionTwo (text (x .0)) .kind, length (text (x .0)))) extremes
       ≡ map (λ (x : String × ℕ). (0, 3, x .1)) extremes
 
@@ -137,6 +162,8 @@ pub record Promises : Type 0 where
   pub entries-demand-3 : EntriesDemand3 editionTwo
   pub entries-agree : EntriesAgree editionTwo
   pub short-agrees : ShortAgrees editionTwo
+  pub short-fields : ShortFields
+  pub algorithm-versions : AlgorithmVersions
   pub lanes : Lanes
   pub lengths : Lengths
   pub examples : Examples

@@ -12,16 +12,16 @@ use Rattle.table.specs.Limits.{Profile, profileOf}
 use Rattle.table.specs.declared.version.Version.{Version}
 use Rattle.table.specs.declared.version.Version.the-variants.{Absent, Number}
 use Rattle.profile.specs.Fields.{FieldSet, chosen}
-use Rattle.profile.specs.Reader.{answer, fieldsOf}
-use Rattle.profile.specs.Writer.{refusal, formatted, shortFields, shortRefusal}
-use Rattle.profile.specs.declared.fields.Fields.{Fields}
+use Rattle.profile.specs.Reader.{readerNumber, fieldsOf}
+use Rattle.profile.specs.Writer.{writerNumber, formatted, shortFields, shortWriterNumber}
+use Rattle.profile.specs.declared.fields.NumberFields.{NumberFields}
 use Rattle.profile.specs.declared.fields.ByteString.{ByteString}
 use Rattle.profile.specs.declared.fields.Reading.{Reading}
 use Rattle.profile.specs.declared.fields.AlgorithmVersion.{AlgorithmVersion}
 
 -- ---- the profile reader
 
-abbrev pub noFields : Fields
+abbrev pub noFields : NumberFields
 noFields = record { id = 0; version = Absent; m = 0; t = 0; p = 0 }
 
 -- all-zero, version absent
@@ -38,9 +38,9 @@ kindOf (some s) (some o) = 3
 
 unfoldable pub reading : List Profile → List ℕ → Reading
 reading e s =
-    cond (eqb (answer e s) 0)
+    cond (eqb (readerNumber e s) 0)
     (record { number = 0; kind = kindOf (pieces s .salt) (pieces s .output); fields = fieldsOf e s .numbers })
-    (refusedReading (answer e s))
+    (refusedReading (readerNumber e s))
 
 -- ---- which algorithm version is meant
 
@@ -49,6 +49,7 @@ abbrev pub versionOr : ℕ → Version → ℕ
 versionOr implied Absent = implied
 versionOr implied (Number n) = n
 
+-- of what a reader gave. Free answer: one made by hand goes by its fields, whatever its number is
 abbrev pub algorithmVersionOf : List Profile → Reading → AlgorithmVersion
 algorithmVersionOf e r = record { number = r .number; version = versionOr (profileOf e (r .fields .id) .implied) (r .fields .version) }
 
@@ -59,10 +60,10 @@ algorithmVersion e s = algorithmVersionOf e (reading e s)
 -- ---- the byte-string entry, the writer and the short writer
 
 unfoldable pub decoded : List Profile → ByteString → List ℕ → List ℕ → ℕ → Outcome
-decoded e c s buffer at = putAfter (answer e s) buffer at (chosen c (fieldsOf e s))
+decoded e c s buffer at = putAfter (readerNumber e s) buffer at (chosen c (fieldsOf e s))
 
 unfoldable pub writing : List Profile → FieldSet → List ℕ → ℕ → Outcome
-writing e f buffer at = putAfter (refusal e f) buffer at (formatted e f)
+writing e f buffer at = putAfter (writerNumber e f) buffer at (formatted e f)
 
 unfoldable pub shortWriting : List Profile → ℕ → List ℕ → List ℕ → List ℕ → ℕ → Outcome
-shortWriting e k salt output buffer at = putAfter (shortRefusal e k salt output) buffer at (formatted e (shortFields e k salt output))
+shortWriting e k salt output buffer at = putAfter (shortWriterNumber e k salt output) buffer at (formatted e (shortFields e k salt output))

@@ -20,19 +20,19 @@ use Rattle.table.specs.declared.limits.BytesRule.{BytesRule}
 use Rattle.table.specs.declared.limits.BytesRule.the-variants.{Sized, Forbidden}
 use Rattle.table.specs.declared.version.Version.{Version}
 use Rattle.table.specs.declared.version.Version.the-variants.{Absent, Number}
-use Rattle.profile.specs.declared.fields.Fields.{Fields}
+use Rattle.profile.specs.declared.fields.NumberFields.{NumberFields}
 use Rattle.profile.specs.declared.fields.ByteString.{ByteString}
 use Rattle.profile.specs.declared.fields.ByteString.the-variants.{Keyid, Data, Salt, Output}
 
 -- 01's fields: the number fields (id, version, m, t, p), and the four byte strings beside them
 pub record FieldSet : Type 0 where
-  pub numbers : Fields
+  pub numbers : NumberFields
   pub keyid : List ℕ
   pub «data» : List ℕ
   pub salt : List ℕ
   pub output : List ℕ
 
-abbrev pub fieldSet : Fields → List ℕ → List ℕ → List ℕ → List ℕ → FieldSet
+abbrev pub fieldSet : NumberFields → List ℕ → List ℕ → List ℕ → List ℕ → FieldSet
 fieldSet numbers keyid «data» salt output = record { numbers = numbers; keyid = keyid; «data» = «data»; salt = salt; output = output }
 
 abbrev pub chosen : ByteString → FieldSet → List ℕ
@@ -50,7 +50,8 @@ numberReading r t = limitedReading (lowest r) (highest r) t
 abbrev pub isNumber : NumberRule → List ℕ → Bool
 isNumber r t = eqb (limitedNumber (numberReading r t)) 0
 
--- as written or, where it is left out, what stands for it. Free answer: a number that is no parameter, which row 10 refuses before
+-- as written or, where it is left out, what stands for it. Free answer: 0 for a text that is no decimal in range, and its own number for one of a
+-- parameter that the profile hasn't; rows 10 and 11 come before
 abbrev pub readNumber : NumberRule → OptionalText → ℕ
 readNumber r none = defaultOf r
 readNumber r (some t) = limitedValue (numberReading r t)
@@ -65,17 +66,17 @@ writeNumber r n = cond (isOmitted r n) none (some (digits n))
 
 -- ---- one byte string
 
-abbrev pub misplacedBytes : BytesRule → OptionalText → Bool
-misplacedBytes (Sized low high) s = false
-misplacedBytes Forbidden none = false
-misplacedBytes Forbidden (some t) = true
+abbrev pub unknownBytes : BytesRule → OptionalText → Bool
+unknownBytes (Sized low high) s = false
+unknownBytes Forbidden none = false
+unknownBytes Forbidden (some t) = true
 
 -- of a permitted length, in bytes
-abbrev pub isSized : BytesRule → List ℕ → Bool
-isSized r t = isSize r (length (decode t))
+abbrev pub isDecodedSize : BytesRule → List ℕ → Bool
+isDecodedSize r t = isSize r (length (decode t))
 
 abbrev pub isBytes : BytesRule → List ℕ → Bool
-isBytes r t = canonical t && isSized r t
+isBytes r t = canonical t && isDecodedSize r t
 
 abbrev pub readBytes : OptionalText → List ℕ
 readBytes none = []

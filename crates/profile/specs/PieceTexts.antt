@@ -10,7 +10,7 @@ use Rattle.grammar.specs.Bytes.{dollar}
 use Rattle.grammar.specs.Pieces.{OptionalText}
 use Rattle.table.specs.Limits.{Profile}
 use Rattle.profile.specs.Fields.{FieldSet, writeNumber, writeBytes, writeVersion}
-use Rattle.profile.specs.declared.fields.Fields.{Fields}
+use Rattle.profile.specs.declared.fields.NumberFields.{NumberFields}
 
 -- a text that may not be there, with its tag before it
 abbrev pub tagged : List ℕ → OptionalText → List ℕ
@@ -23,14 +23,14 @@ taggedLength tag none = 0
 taggedLength tag (some t) = tag + length t
 
 -- the numbers as items, each with a comma before it
-abbrev pub costsText : Profile → Fields → List ℕ
+abbrev pub costsText : Profile → NumberFields → List ℕ
 costsText r n =
     tagged (text ",m=") (writeNumber (r .m) (n .m))
     ++ tagged (text ",t=") (writeNumber (r .t) (n .t))
     ++ tagged (text ",p=") (writeNumber (r .p) (n .p))
 
 -- and keyid and data
-abbrev pub itemsText : Profile → Fields → List ℕ → List ℕ → List ℕ
+abbrev pub itemsText : Profile → NumberFields → List ℕ → List ℕ → List ℕ
 itemsText r n keyid «data» =
     costsText r n
     ++ tagged (text ",keyid=") (writeBytes keyid)
@@ -42,7 +42,7 @@ dollared [] = []
 dollared (c ∷ s) = dollar ∷ s
 
 -- the pieces before the salt
-abbrev pub headText : Profile → Fields → List ℕ → List ℕ → List ℕ
+abbrev pub headText : Profile → NumberFields → List ℕ → List ℕ → List ℕ
 headText r n keyid «data» =
     (dollar ∷ r .name)
     ++ tagged (text "$") (writeVersion (n .version))
@@ -57,7 +57,7 @@ piecesText r f =
 
 -- ---- lengths
 
-abbrev pub costsLength : Profile → Fields → ℕ
+abbrev pub costsLength : Profile → NumberFields → ℕ
 costsLength r n =
     taggedLength 3 (writeNumber (r .m) (n .m))
     + taggedLength 3 (writeNumber (r .t) (n .t))

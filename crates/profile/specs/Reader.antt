@@ -11,16 +11,16 @@ use Rattle.text.specs.Rows.{Row, row, firstOf}
 use Rattle.grammar.specs.Pieces.{OptionalText, Pieces, pieces}
 use Rattle.grammar.specs.Items.{Item, itemsOf}
 use Rattle.grammar.specs.Rules.{grammarRows}
-use Rattle.table.specs.Limits.{Profile, fewKilobytes, versionAllowed, idOf, profileOf, misplacedNumber}
+use Rattle.table.specs.Limits.{Profile, memoryTooLittle, versionAllowed, idOf, profileOf, missingOrUnknownNumber}
 use Rattle.table.specs.declared.limits.NumberRule.{NumberRule}
 use Rattle.table.specs.declared.version.Version.{Version}
-use Rattle.profile.specs.Fields.{FieldSet, isNumber, readNumber, writtenOut, misplacedBytes, isSized, isBytes, readBytes, readVersion}
+use Rattle.profile.specs.Fields.{FieldSet, isNumber, readNumber, writtenOut, unknownBytes, isDecodedSize, isBytes, readBytes, readVersion}
 
 -- ---- parameters by name, in order
 
 -- m, t, p, then keyid, then data
-abbrev pub names : List (List ℕ)
-names = text "m" ∷ text "t" ∷ text "p" ∷ text "keyid" ∷ text "data" ∷ []
+abbrev pub parameterNames : List (List ℕ)
+parameterNames = text "m" ∷ text "t" ∷ text "p" ∷ text "keyid" ∷ text "data" ∷ []
 
 abbrev pub named : List ℕ → Item → Bool
 named n i = same (i .0) n
@@ -29,7 +29,7 @@ abbrev pub itemValue : Option Item → OptionalText
 itemValue none = none
 itemValue (some i) = some (i .1)
 
--- the value of each name, as the items have them in order; and the items that are left
+-- the value of each name, as the items have them in order; and the items that are left, whose names are unknown, repeated or out of order
 abbrev pub namedValues : List (List ℕ) → List Item → List OptionalText
 namedValues [] is = []
 namedValues (n ∷ ns) is = itemValue (headIf (named n) is) ∷ namedValues ns (tailIf (named n) is)
@@ -43,14 +43,14 @@ valueAt vs k = getD vs k none
 
 -- ---- the rows, of the profile r and the values vs of the names
 
--- names missing or unknown to the profile
-abbrev pub misplaced : Profile → List OptionalText → Bool
-misplaced r vs =
-    misplacedNumber (r .m) (valueAt vs 0)
-    || misplacedNumber (r .t) (valueAt vs 1)
-    || misplacedNumber (r .p) (valueAt vs 2)
-    || misplacedBytes (r .keyid) (valueAt vs 3)
-    || misplacedBytes (r .«data») (valueAt vs 4)
+-- row 10, beside the items left: names missing, or unknown to the profile
+abbrev pub missingOrUnknown : Profile → List OptionalText → Bool
+missingOrUnknown r vs =
+    missingOrUnknownNumber (r .m) (valueAt vs 0)
+    || missingOrUnknownNumber (r .t) (valueAt vs 1)
+    || missingOrUnknownNumber (r .p) (valueAt vs 2)
+    || unknownBytes (r .keyid) (valueAt vs 3)
+    || unknownBytes (r .«data») (valueAt vs 4)
 
 -- a number: not a permitted decimal, or out of range
 abbrev pub numberRow : NumberRule → OptionalText → List Row
@@ -62,11 +62,11 @@ numberRows r vs =
     numberRow (r .m) (valueAt vs 0)
     ++ (numberRow (r .t) (valueAt vs 1)
     ++ (numberRow (r .p) (valueAt vs 2)
-    ++ (row 11 (fewKilobytes (readNumber (r .m) (valueAt vs 0)) (readNumber (r .p) (valueAt vs 2))) ∷ [])))
+    ++ (row 11 (memoryTooLittle (readNumber (r .m) (valueAt vs 0)) (readNumber (r .p) (valueAt vs 2))) ∷ [])))
 
--- keyid and data, then a number written out
-abbrev pub spellingRows : Profile → List OptionalText → List Row
-spellingRows r vs =
+-- keyid and data, then a number written out: in 01's table only pbkdf2's t can be
+abbrev pub bytesAndDefaultRows : Profile → List OptionalText → List Row
+bytesAndDefaultRows r vs =
     row 12 (violates (isBytes (r .keyid)) (valueAt vs 3))
     ∷ row 12 (violates (isBytes (r .«data»)) (valueAt vs 4))
     ∷ row 13 (writtenOut (r .m) (valueAt vs 0))
@@ -79,21 +79,21 @@ abbrev pub rowsFor : Profile → Version → List OptionalText → Bool → Opti
 rowsFor r v vs unmatched salt output =
     row 8 (not (r .known))
     ∷ row 9 (not (versionAllowed (r .versions) v))
-    ∷ row 10 (unmatched || misplaced r vs)
+    ∷ row 10 (unmatched || missingOrUnknown r vs)
     ∷ (numberRows r vs
-    ++ (spellingRows r vs
+    ++ (bytesAndDefaultRows r vs
     ++ (row 14 (violates (isBytes (r .salt)) salt)
-    ∷ row 15 (violates (isSized (r .output)) output)
+    ∷ row 15 (violates (isDecodedSize (r .output)) output)
     ∷ [])))
 
 abbrev pub profileRows : List Profile → Pieces → List Row
 profileRows e p =
     let is = itemsOf (p .params) in
-    rowsFor (profileOf e (idOf e (p .id))) (readVersion (p .version)) (namedValues names is) (not (empty (unmatchedItems names is))) (p .salt) (p .output)
+    rowsFor (profileOf e (idOf e (p .id))) (readVersion (p .version)) (namedValues parameterNames is) (not (empty (unmatchedItems parameterNames is))) (p .salt) (p .output)
 
 -- the reader's number: rows 1 to 7 are the grammar's. A string is 01's accepted where it is 0
-unfoldable pub answer : List Profile → List ℕ → ℕ
-answer e s = firstOf (grammarRows s ++ profileRows e (pieces s))
+unfoldable pub readerNumber : List Profile → List ℕ → ℕ
+readerNumber e s = firstOf (grammarRows s ++ profileRows e (pieces s))
 
 -- ---- the fields
 
@@ -115,11 +115,11 @@ fieldsFor r k v vs salt output =
       output = readBytes output;
     }
 
-abbrev pub carried : List Profile → Pieces → FieldSet
-carried e p =
+abbrev pub fieldsOfPieces : List Profile → Pieces → FieldSet
+fieldsOfPieces e p =
     let k = idOf e (p .id) in
-    fieldsFor (profileOf e k) k (readVersion (p .version)) (namedValues names (itemsOf (p .params))) (p .salt) (p .output)
+    fieldsFor (profileOf e k) k (readVersion (p .version)) (namedValues parameterNames (itemsOf (p .params))) (p .salt) (p .output)
 
 -- the fields that an accepted string carries (01's carried): what its pieces say
 unfoldable pub fieldsOf : List Profile → List ℕ → FieldSet
-fieldsOf e s = carried e (pieces s)
+fieldsOf e s = fieldsOfPieces e (pieces s)

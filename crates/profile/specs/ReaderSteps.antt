@@ -15,7 +15,7 @@ use Rattle.grammar.specs.Parts.{partAt, textOf}
 use Rattle.grammar.specs.declared.places.Span.{Span}
 use Rattle.table.specs.Limits.{Profile, editionTwo}
 use Rattle.profile.specs.Fields.{chosen, readNumber}
-use Rattle.profile.specs.Reader.{names, named, itemValue, namedValues, unmatchedItems, valueAt, fieldsOf}
+use Rattle.profile.specs.Reader.{parameterNames, named, itemValue, namedValues, unmatchedItems, valueAt, fieldsOf}
 use Rattle.profile.specs.Entries.{reading}
 use Rattle.profile.specs.declared.judge.Judgement.{Judgement}
 use Rattle.profile.specs.declared.fields.ByteString.{ByteString}
@@ -37,8 +37,8 @@ spanTexts s v = spanText s (v .m) ∷ spanText s (v .t) ∷ spanText s (v .p) �
 
 -- the whole walk
 pub record ValuesAre (params : List ℕ) (is : List Item) (v : Values) : Type 0 where
-  pub found : spanTexts params v ≡ namedValues names is
-  pub unmatched-is : v .unmatched ≡ not (empty (unmatchedItems names is))
+  pub found : spanTexts params v ≡ namedValues parameterNames is
+  pub unmatched-is : v .unmatched ≡ not (empty (unmatchedItems parameterNames is))
 
 -- ---- the judge
 

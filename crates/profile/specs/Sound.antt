@@ -1,4 +1,5 @@
--- The computed tests that a table of limits has to pass for the claims to hold of it.
+-- The computed tests that a table of limits has to pass for the claims to hold of it: what the proofs over any edition ask, and document 01's table
+-- passes. No claim of `Promises` and no contract cites them.
 -- Assumes nothing.
 use Prim.Native.Nat.{ℕ}
 use mathlib.Core.Bool.{Bool, true, not, _&&_, _||_}
@@ -8,7 +9,7 @@ use Rattle.text.specs.Text.{within, all, every}
 use Rattle.b64.specs.Lengths.{charsOf}
 use Rattle.grammar.specs.Limits.{longestValue, longestOutput, largestVersion}
 use Rattle.grammar.specs.Rules.{isName}
-use Rattle.table.specs.Limits.{Profile, inRange, fewKilobytes, versionAllowed, idOf, largest32}
+use Rattle.table.specs.Limits.{Profile, inRange, memoryTooLittle, versionAllowed, idOf, largest32}
 use Rattle.table.specs.declared.limits.NumberRule.{NumberRule}
 use Rattle.table.specs.declared.limits.NumberRule.the-variants.{Required, Defaulted, Constant}
 use Rattle.table.specs.declared.limits.BytesRule.{BytesRule}
@@ -53,7 +54,7 @@ abbrev pub defaultsAt : ℕ → Profile → Bool
 defaultsAt k r =
     let u = r .defaults in
     not (r .known) || (versionAllowed (r .versions) (u .version)
-    && (inRange (r .m) (u .m) && (inRange (r .t) (u .t) && (inRange (r .p) (u .p) && not (fewKilobytes (u .m) (u .p))))))
+    && (inRange (r .m) (u .m) && (inRange (r .t) (u .t) && (inRange (r .p) (u .p) && not (memoryTooLittle (u .m) (u .p))))))
 
 unfoldable pub defaultsSound : List Profile → Bool
 defaultsSound e = every defaultsAt 1 e

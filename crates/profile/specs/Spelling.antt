@@ -21,5 +21,6 @@ pub record Demand3 (w : Spelling) : Type 0 where
   pub same-fields : (f g : FieldSet) (s : List ℕ) → w .Permitted f → w .Permitted g → w .WrittenTo f s → w .WrittenTo g s → f ≡ g
   pub refused-exactly : (s : List ℕ) → (w .Accepted s → ⊥) ↔ ((f : FieldSet) → w .Permitted f → w .WrittenTo f s → ⊥)
   pub written-back : (s : List ℕ) (f : FieldSet) → w .Carries s f → w .Permitted f × w .WrittenTo f s
-  -- and every accepted string, and no other, carries fields
+  -- every accepted string, and no other, carries fields; and every permitted set of fields is written to a string
   pub carries : (s : List ℕ) → w .Accepted s ↔ ((f : FieldSet) × w .Carries s f)
+  pub writes : (f : FieldSet) → w .Permitted f → (s : List ℕ) × w .WrittenTo f s

@@ -11,11 +11,11 @@ use Rattle.text.specs.Text.{all, empty, isByte}
 use Rattle.text.specs.Rows.{Row, row, firstOf}
 use Rattle.grammar.specs.Pieces.{OptionalText, Pieces, string}
 use Rattle.grammar.specs.Items.{Item, paramsText}
-use Rattle.table.specs.Limits.{Profile, inRange, fewKilobytes, isSize, versionAllowed, profileOf}
+use Rattle.table.specs.Limits.{Profile, inRange, memoryTooLittle, isSize, versionAllowed, profileOf}
 use Rattle.table.specs.declared.limits.BytesRule.{BytesRule}
 use Rattle.profile.specs.Fields.{FieldSet, fieldSet, writeNumber, writeBytes, writeVersion}
-use Rattle.profile.specs.Reader.{names}
-use Rattle.profile.specs.declared.fields.Fields.{Fields}
+use Rattle.profile.specs.Reader.{parameterNames}
+use Rattle.profile.specs.declared.fields.NumberFields.{NumberFields}
 
 -- empty, or of a permitted size
 abbrev pub bytesAllowed : BytesRule → List ℕ → Bool
@@ -35,12 +35,12 @@ pub record Allows (r : Profile) (f : FieldSet) : Type 0 where
   pub m : inRange (r .m) (f .numbers .m) ≡ true
   pub t : inRange (r .t) (f .numbers .t) ≡ true
   pub p : inRange (r .p) (f .numbers .p) ≡ true
-  pub lanes : fewKilobytes (f .numbers .m) (f .numbers .p) ≡ false
+  pub lanes : memoryTooLittle (f .numbers .m) (f .numbers .p) ≡ false
   pub keyid : bytesAllowed (r .keyid) (f .keyid) ≡ true
   pub «data» : bytesAllowed (r .«data») (f .«data») ≡ true
   pub salt : bytesAllowed (r .salt) (f .salt) ≡ true
   pub output : bytesAllowed (r .output) (f .output) ≡ true
-  pub order : (empty (f .salt) && not (empty (f .output))) ≡ false
+  pub output-with-salt : (empty (f .salt) && not (empty (f .output))) ≡ false
 
 -- 01's permitted fields
 pub record Permitted (e : List Profile) (f : FieldSet) : Type 0 where
@@ -50,12 +50,12 @@ pub record Permitted (e : List Profile) (f : FieldSet) : Type 0 where
 -- ---- the writer's rows
 
 -- the numbers: each in its range, then m at least 8p
-abbrev pub rangeRows : Profile → Fields → List Row
+abbrev pub rangeRows : Profile → NumberFields → List Row
 rangeRows r n =
     row 11 (not (inRange (r .m) (n .m)))
     ∷ row 11 (not (inRange (r .t) (n .t)))
     ∷ row 11 (not (inRange (r .p) (n .p)))
-    ∷ row 11 (fewKilobytes (n .m) (n .p))
+    ∷ row 11 (memoryTooLittle (n .m) (n .p))
     ∷ []
 
 abbrev pub saltRows : Profile → List ℕ → List ℕ → List Row
@@ -84,8 +84,8 @@ abbrev pub writerRows : List Profile → FieldSet → List Row
 writerRows e f = columnRows (profileOf e (f .numbers .id)) f
 
 -- the writer's number, before it looks at the room
-unfoldable pub refusal : List Profile → FieldSet → ℕ
-refusal e f = firstOf (writerRows e f)
+unfoldable pub writerNumber : List Profile → FieldSet → ℕ
+writerNumber e f = firstOf (writerRows e f)
 
 -- ---- the string
 
@@ -115,7 +115,7 @@ fieldPieces e f =
     record {
       id = r .name;
       version = writeVersion (f .numbers .version);
-      params = paramsText (itemList names (fieldValues r f));
+      params = paramsText (itemList parameterNames (fieldValues r f));
       salt = writeBytes (f .salt);
       output = writeBytes (f .output);
       more = [];
@@ -137,5 +137,5 @@ shortRows e k salt output =
     let r = profileOf e k in
     row 8 (not (r .known)) ∷ saltRows r salt output
 
-unfoldable pub shortRefusal : List Profile → ℕ → List ℕ → List ℕ → ℕ
-shortRefusal e k salt output = firstOf (shortRows e k salt output)
+unfoldable pub shortWriterNumber : List Profile → ℕ → List ℕ → List ℕ → ℕ
+shortWriterNumber e k salt output = firstOf (shortRows e k salt output)

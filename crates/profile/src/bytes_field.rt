@@ -11,13 +11,13 @@ ghost use Prim.Native.Nat.{ℕ};
 ghost use mathlib.Core.Path.{_≡_};
 ghost use mathlib.Core.List.{List};
 ghost use Rattle.text.specs.Text.{violates};
-ghost use Rattle.profile.specs.Fields.{isSized, isBytes, misplacedBytes};
+ghost use Rattle.profile.specs.Fields.{isDecodedSize, isBytes, unknownBytes};
 ghost use Rattle.profile.specs.Writer.{bytesAllowed};
 ghost use Rattle.profile.specs.ReaderSteps.{spanText};
 
 // There where it is no parameter. The text doesn't matter.
-pub fn misplaced_bytes(rule: BytesRule, span: Span) -> bool
-    ensures { λ r. ⌜ ((t : List ℕ) → r ≡ misplacedBytes rule (spanText t span)) ⌝ }
+pub fn unknown_bytes(rule: BytesRule, span: Span) -> bool
+    ensures { λ r. ⌜ ((t : List ℕ) → r ≡ unknownBytes rule (spanText t span)) ⌝ }
 {
     match rule {
         BytesRule::Sized { low: _, high: _ } => false,
@@ -27,7 +27,7 @@ pub fn misplaced_bytes(rule: BytesRule, span: Span) -> bool
 
 // There, and not of a permitted size.
 pub fn bad_size(rule: BytesRule, t: &[u8], span: Span) -> bool
-    ensures { λ r. ⌜ r ≡ violates (isSized rule) (spanText (now (t .entry)) span) ⌝ }
+    ensures { λ r. ⌜ r ≡ violates (isDecodedSize rule) (spanText (now (t .entry)) span) ⌝ }
 {
     if span.at == 0 {
         return false;

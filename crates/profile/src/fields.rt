@@ -1,8 +1,9 @@
 // The fields of a string. The four byte strings travel beside the number fields.
 use table::version::Version;
 
-// id is 1 to 5 in the order of the profiles' list; p is a u32, so that what is too large is refused and not wrapped.
-pub struct Fields {
+// The number fields: id, version, m, t and p. id is 1 to 5 in the order of the profiles' list; p is a u32, so that what is too large is refused
+// and not wrapped.
+pub struct NumberFields {
     pub id: u8,
     pub version: Version,
     pub m: u32,
@@ -18,11 +19,12 @@ pub enum ByteString {
     Output,
 }
 
-// What the profile reader gives: 0, the kind (1 parameters, 2 salt, 3 hash) and the number fields; or the refusal's number and zeros.
+// What the profile reader gives: 0, the kind (1 parameters, 2 salt, 3 hash) and the number fields; or the refusal's number and zeros,
+// version absent.
 pub struct Reading {
     pub number: u8,
     pub kind: u8,
-    pub fields: Fields,
+    pub fields: NumberFields,
 }
 
 // Which algorithm version a string means: 0 and the version, or the refusal's number and 0.

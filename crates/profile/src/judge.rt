@@ -1,8 +1,8 @@
 // Rows 8 to 15, over the id's column, the version, the values of the names, the salt and the output.
 use crate::bytes_field::bad_bytes;
 use crate::bytes_field::bad_size;
-use crate::bytes_field::misplaced_bytes;
-use crate::number_field::misplaced_number;
+use crate::bytes_field::unknown_bytes;
+use crate::number_field::missing_or_unknown;
 use crate::number_field::read_number;
 use crate::number_field::written_out;
 use crate::numbers::UNKNOWN_ID;
@@ -15,7 +15,7 @@ use crate::numbers::WRONG_OUTPUT;
 use crate::numbers::WRONG_SALT;
 use crate::values::Values;
 use grammar::places::Span;
-use table::bounds::few_kilobytes;
+use table::bounds::memory_too_little;
 use table::bounds::version_allowed;
 use table::limits::Column;
 use table::version::Version;
@@ -24,7 +24,7 @@ ghost use mathlib.Core.Path.{_≡_};
 ghost use mathlib.Core.List.{List};
 ghost use Rattle.text.specs.Rows.{firstOf};
 ghost use Rattle.table.specs.Columns.{profileIn};
-ghost use Rattle.profile.specs.Reader.{misplaced, numberRows, spellingRows, rowsFor};
+ghost use Rattle.profile.specs.Reader.{missingOrUnknown, numberRows, bytesAndDefaultRows, rowsFor};
 ghost use Rattle.profile.specs.ReaderSteps.{spanText, spanTexts, NumbersAre, Judged};
 
 // What the judge gives: the number of the row, 0 where none applies, and the numbers read.
@@ -36,32 +36,32 @@ pub struct Judgement {
 }
 
 // Names missing or unknown to the profile.
-fn is_misplaced(column: Column, values: Values) -> bool
-    ensures { λ r. ⌜ ((t : List ℕ) → r ≡ misplaced (profileIn column) (spanTexts t values)) ⌝ }
+fn missing_or_unknown_names(column: Column, values: Values) -> bool
+    ensures { λ r. ⌜ ((t : List ℕ) → r ≡ missingOrUnknown (profileIn column) (spanTexts t values)) ⌝ }
 {
     let m = column.m;
     let m_span = values.m;
-    if misplaced_number(m, m_span) {
+    if missing_or_unknown(m, m_span) {
         return true;
     }
     let t = column.t;
     let t_span = values.t;
-    if misplaced_number(t, t_span) {
+    if missing_or_unknown(t, t_span) {
         return true;
     }
     let p = column.p;
     let p_span = values.p;
-    if misplaced_number(p, p_span) {
+    if missing_or_unknown(p, p_span) {
         return true;
     }
     let keyid = column.keyid;
     let keyid_span = values.keyid;
-    if misplaced_bytes(keyid, keyid_span) {
+    if unknown_bytes(keyid, keyid_span) {
         return true;
     }
     let data = column.data;
     let data_span = values.data;
-    misplaced_bytes(data, data_span)
+    unknown_bytes(data, data_span)
 }
 
 fn refused(number: u8) -> Judgement
@@ -97,7 +97,7 @@ fn read_numbers(column: Column, params: &[u8], values: Values) -> Judgement
     if p.number != 0 {
         return refused(p.number);
     }
-    if few_kilobytes(m.value, p.value) {
+    if memory_too_little(m.value, p.value) {
         return refused(WRONG_NUMBER);
     }
     Judgement {
@@ -109,9 +109,9 @@ fn read_numbers(column: Column, params: &[u8], values: Values) -> Judgement
 }
 
 // Rows 12 and 13.
-fn bytes_and_spelling(column: Column, params: &[u8], values: Values, n: Judgement) -> u8
+fn bytes_and_defaults(column: Column, params: &[u8], values: Values, n: Judgement) -> u8
     requires { ⌜ NumbersAre (profileIn column) (spanTexts (now params) values) (n .m) (n .t) (n .p) ⌝ }
-    ensures { λ r. ⌜ r ≡ firstOf (spellingRows (profileIn column) (spanTexts (now (params .entry)) values)) ⌝ }
+    ensures { λ r. ⌜ r ≡ firstOf (bytesAndDefaultRows (profileIn column) (spanTexts (now (params .entry)) values)) ⌝ }
 {
     let keyid = column.keyid;
     let keyid_span = values.keyid;
@@ -163,14 +163,14 @@ pub fn judge(
     if values.unmatched {
         return refused(WRONG_NAMES);
     }
-    if is_misplaced(column, values) {
+    if missing_or_unknown_names(column, values) {
         return refused(WRONG_NAMES);
     }
     let n = read_numbers(column, params, values);
     if n.number != 0 {
         return n;
     }
-    let number = bytes_and_spelling(column, params, values, n);
+    let number = bytes_and_defaults(column, params, values, n);
     if number != 0 {
         return refused(number);
     }

@@ -20,7 +20,7 @@ ghost use lib.ListN.{length};
 ghost use Rattle.text.specs.Rows.{firstOf};
 ghost use Rattle.text.specs.Place.{Wrote};
 ghost use Rattle.decimal.specs.Numerals.{limitedValue};
-ghost use Rattle.table.specs.Limits.{room, misplacedNumber};
+ghost use Rattle.table.specs.Limits.{longestPermitted, missingOrUnknownNumber};
 ghost use Rattle.profile.specs.Fields.{numberReading, readNumber, writtenOut, writeNumber};
 ghost use Rattle.profile.specs.Reader.{numberRow};
 ghost use Rattle.profile.specs.ReaderSteps.{spanText};
@@ -33,8 +33,8 @@ pub struct Number {
 }
 
 // Missing where it is required, or there where it is no parameter. The text doesn't matter.
-pub fn misplaced_number(rule: NumberRule, span: Span) -> bool
-    ensures { λ r. ⌜ ((t : List ℕ) → r ≡ misplacedNumber rule (spanText t span)) ⌝ }
+pub fn missing_or_unknown(rule: NumberRule, span: Span) -> bool
+    ensures { λ r. ⌜ ((t : List ℕ) → r ≡ missingOrUnknownNumber rule (spanText t span)) ⌝ }
 {
     match rule {
         NumberRule::Required { low: _, high: _ } => span.at == 0,
@@ -92,7 +92,7 @@ pub fn written_out(rule: NumberRule, span: Span, value: u32) -> bool
 
 // The length of a number after a tag of so many characters; nothing where it is left out.
 pub fn number_len(tag: Chars, rule: NumberRule, n: u32) -> Chars
-    requires { ⌜ tag .0 ≤ room ⌝ }
+    requires { ⌜ tag .0 ≤ longestPermitted ⌝ }
     ensures { λ r. ⌜ r .0 ≡ taggedLength (tag .0) (writeNumber rule n) ⌝ }
 {
     if is_omitted(rule, n) {

@@ -1,7 +1,7 @@
 // The profile reader: kind and number fields of a string, or the number of the row that refuses it; and the byte-string entry.
 use crate::fields::AlgorithmVersion;
 use crate::fields::ByteString;
-use crate::fields::Fields;
+use crate::fields::NumberFields;
 use crate::fields::Reading;
 use crate::judge::judge;
 use crate::parsed::ParsedString;
@@ -41,7 +41,7 @@ fn refused(number: u8) -> Reading
     Reading {
         number,
         kind: 0,
-        fields: Fields {
+        fields: NumberFields {
             id: 0,
             version: Version::Absent,
             m: 0,
@@ -125,7 +125,7 @@ fn read_pieces(s: &[u8], places: Places) -> ParsedString
         reading: Reading {
             number: 0,
             kind: kind_of(salt, output),
-            fields: Fields {
+            fields: NumberFields {
                 id,
                 version,
                 m: j.m,
@@ -155,7 +155,7 @@ fn parse(s: &[u8]) -> ParsedString
     read_pieces(s, places)
 }
 
-// The profile reader.
+// The profile reader: kind, id, version, m, t and p of a string; or 1 to 15 and zeros, version absent.
 pub fn read(s: &[u8]) -> Reading
     ensures { λ r. ⌜ r ≡ reading editionTwo (now (s .entry)) ⌝ }
 {
@@ -163,7 +163,8 @@ pub fn read(s: &[u8]) -> Reading
     parsed.reading
 }
 
-// The algorithm version that a reading means: the one written, or the one that the profile implies. Of a refused string it is 0.
+// The algorithm version that a reader's answer means: the one written, or the one that the profile implies. Of a refusal it is 0, as its fields
+// are all-zero; an answer made by hand goes by its fields.
 pub fn algorithm_version_of(r: Reading) -> AlgorithmVersion
     ensures { λ v. ⌜ v ≡ algorithmVersionOf editionTwo r ⌝ }
 {

@@ -12,7 +12,7 @@ ghost use mathlib.Core.List.{_++_};
 ghost use lib.ListN.{length};
 ghost use Rattle.text.specs.Place.{Wrote};
 ghost use Rattle.decimal.specs.Decimal.{digits};
-ghost use Rattle.table.specs.Limits.{room};
+ghost use Rattle.table.specs.Limits.{longestPermitted};
 ghost use Rattle.profile.specs.Fields.{writeBytes};
 ghost use Rattle.profile.specs.PieceTexts.{tagged, taggedLength};
 
@@ -38,7 +38,7 @@ pub fn put_decimal(tag: &[u8], n: u32, out: &mut [u8]) -> Chars
 
 // The length of a number after a tag of so many characters.
 pub fn decimal_len(tag: Chars, n: u32) -> Chars
-    requires { ⌜ tag .0 ≤ room ⌝ }
+    requires { ⌜ tag .0 ≤ longestPermitted ⌝ }
     ensures { λ r. ⌜ r .0 ≡ tag .0 + length (digits n) ⌝ }
 {
     tag.plus(unsigned_len(n as u64))
@@ -60,7 +60,7 @@ pub fn put_bytes(tag: &[u8], bytes: &[u8], out: &mut [u8]) -> Chars
 
 // The length of a byte string after a tag of so many characters.
 pub fn bytes_len(tag: Chars, bytes: &[u8]) -> Chars
-    requires { ⌜ taggedLength (tag .0) (writeBytes (now bytes)) ≤ room ⌝ }
+    requires { ⌜ taggedLength (tag .0) (writeBytes (now bytes)) ≤ longestPermitted ⌝ }
     ensures { λ r. ⌜ r .0 ≡ taggedLength (tag .0) (writeBytes (now (bytes .entry))) ⌝ }
 {
     if bytes.len() == 0 {

@@ -1,5 +1,5 @@
 // The writer: the one string of permitted fields, into a lent buffer from a place on; and the short writer, which takes its defaults.
-use crate::fields::Fields;
+use crate::fields::NumberFields;
 use crate::writer_rows::refusal_of;
 use crate::writer_text::put_string;
 use crate::writer_text::string_len;
@@ -18,7 +18,7 @@ ghost use Rattle.profile.specs.Entries.{writing, shortWriting};
 
 // Writes the string of the fields into `buf` from `at` on; the count is its length. 8, 9, 11, 12, 14, 15, 16, then 17.
 pub fn write(
-    n: Fields,
+    n: NumberFields,
     keyid: &[u8],
     data: &[u8],
     salt: &[u8],
@@ -48,13 +48,13 @@ pub fn write(
 }
 
 // The number fields that the short writer uses.
-fn short_fields(id: u8) -> Fields
+fn short_fields(id: u8) -> NumberFields
     ensures { λ r. ⌜ r ≡ shortFields editionTwo id [] [] .numbers ⌝ }
 {
     let column = column_of(id);
     let defaults = column.defaults;
     let version = defaults.version;
-    Fields {
+    NumberFields {
         id,
         version,
         m: defaults.m,

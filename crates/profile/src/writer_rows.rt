@@ -1,6 +1,6 @@
 // The writer's rows 8 to 16 over the fields.
 use crate::bytes_field::bytes_allowed;
-use crate::fields::Fields;
+use crate::fields::NumberFields;
 use crate::numbers::OUTPUT_WITHOUT_SALT;
 use crate::numbers::UNKNOWN_ID;
 use crate::numbers::VERSION_NOT_PERMITTED;
@@ -8,8 +8,8 @@ use crate::numbers::WRONG_BYTES;
 use crate::numbers::WRONG_NUMBER;
 use crate::numbers::WRONG_OUTPUT;
 use crate::numbers::WRONG_SALT;
-use table::bounds::few_kilobytes;
 use table::bounds::in_range;
+use table::bounds::memory_too_little;
 use table::bounds::version_allowed;
 use table::limits::Column;
 ghost use mathlib.Core.Path.{_≡_};
@@ -19,7 +19,7 @@ ghost use Rattle.profile.specs.Fields.{fieldSet};
 ghost use Rattle.profile.specs.Writer.{rangeRows, bytesRows, columnRows};
 
 // Row 11: each number in its range, then m < 8p.
-fn bad_numbers(column: Column, n: Fields) -> u8
+fn bad_numbers(column: Column, n: NumberFields) -> u8
     ensures { λ r. ⌜ r ≡ firstOf (rangeRows (profileIn column) n) ⌝ }
 {
     let m = column.m;
@@ -34,7 +34,7 @@ fn bad_numbers(column: Column, n: Fields) -> u8
     if !in_range(p, n.p) {
         return WRONG_NUMBER;
     }
-    if few_kilobytes(n.m, n.p) {
+    if memory_too_little(n.m, n.p) {
         return WRONG_NUMBER;
     }
     0
@@ -72,7 +72,7 @@ fn bad_byte_strings(column: Column, keyid: &[u8], data: &[u8], salt: &[u8], outp
 // The first row that applies, 0 where none does.
 pub fn refusal_of(
     column: Column,
-    n: Fields,
+    n: NumberFields,
     keyid: &[u8],
     data: &[u8],
     salt: &[u8],

@@ -1,5 +1,5 @@
 // The string of fields: its length, and putting it at the start of a buffer, piece after piece.
-use crate::fields::Fields;
+use crate::fields::NumberFields;
 use crate::name_field::name_len;
 use crate::name_field::put_name;
 use crate::number_field::number_len;
@@ -14,14 +14,14 @@ ghost use Prim.Native.Nat.{_≤_};
 ghost use mathlib.Core.Path.{_≡_};
 ghost use lib.ListN.{length};
 ghost use Rattle.text.specs.Place.{Wrote};
-ghost use Rattle.table.specs.Limits.{room};
+ghost use Rattle.table.specs.Limits.{longestPermitted};
 ghost use Rattle.table.specs.Columns.{profileIn};
 ghost use Rattle.profile.specs.Fields.{fieldSet};
 ghost use Rattle.profile.specs.PieceTexts.{costsText, costsLength, itemsText, dollared, headText, piecesText, piecesLength};
 
 // The length of the numbers as items.
-fn costs_len(column: Column, n: Fields) -> Chars
-    requires { ⌜ costsLength (profileIn column) n ≤ room ⌝ }
+fn costs_len(column: Column, n: NumberFields) -> Chars
+    requires { ⌜ costsLength (profileIn column) n ≤ longestPermitted ⌝ }
     ensures { λ r. ⌜ r .0 ≡ costsLength (profileIn column) n ⌝ }
 {
     let m = column.m;
@@ -35,13 +35,13 @@ fn costs_len(column: Column, n: Fields) -> Chars
 // The length of the string.
 pub fn string_len(
     column: Column,
-    n: Fields,
+    n: NumberFields,
     keyid: &[u8],
     data: &[u8],
     salt: &[u8],
     output: &[u8],
 ) -> Chars
-    requires { ⌜ piecesLength (profileIn column) (fieldSet n (now keyid) (now «data») (now salt) (now output)) ≤ room ⌝ }
+    requires { ⌜ piecesLength (profileIn column) (fieldSet n (now keyid) (now «data») (now salt) (now output)) ≤ longestPermitted ⌝ }
     ensures { λ r. ⌜ r .0 ≡ piecesLength (profileIn column) (fieldSet n (now (keyid .entry)) (now («data» .entry)) (now (salt .entry)) (now (output .entry))) ⌝ }
 {
     let version = n.version;
@@ -56,7 +56,7 @@ pub fn string_len(
 }
 
 // The numbers as items, each with a comma before it.
-fn put_costs(column: Column, n: Fields, out: &mut [u8]) -> Chars
+fn put_costs(column: Column, n: NumberFields, out: &mut [u8]) -> Chars
     requires { ⌜ length (costsText (profileIn column) n) ≤ length (now out) ⌝ }
     ensures { λ r. ⌜ Wrote (costsText (profileIn column) n) (now (out .entry)) (now (out .exit)) (r .0) ⌝ }
 {
@@ -72,7 +72,7 @@ fn put_costs(column: Column, n: Fields, out: &mut [u8]) -> Chars
 }
 
 // The items, each with a comma before it.
-fn put_items(column: Column, n: Fields, keyid: &[u8], data: &[u8], out: &mut [u8]) -> Chars
+fn put_items(column: Column, n: NumberFields, keyid: &[u8], data: &[u8], out: &mut [u8]) -> Chars
     requires { ⌜ length (itemsText (profileIn column) n (now keyid) (now «data»)) ≤ length (now out) ⌝ }
     ensures { λ r. ⌜ Wrote (itemsText (profileIn column) n (now (keyid .entry)) (now («data» .entry))) (now (out .entry)) (now (out .exit)) (r .0) ⌝ }
 {
@@ -85,7 +85,7 @@ fn put_items(column: Column, n: Fields, keyid: &[u8], data: &[u8], out: &mut [u8
 }
 
 // The parameter piece with its `$`, or nothing: the `$` stands where the first comma stood.
-fn put_params(column: Column, n: Fields, keyid: &[u8], data: &[u8], out: &mut [u8]) -> Chars
+fn put_params(column: Column, n: NumberFields, keyid: &[u8], data: &[u8], out: &mut [u8]) -> Chars
     requires { ⌜ length (dollared (itemsText (profileIn column) n (now keyid) (now «data»))) ≤ length (now out) ⌝ }
     ensures { λ r. ⌜ Wrote (dollared (itemsText (profileIn column) n (now (keyid .entry)) (now («data» .entry)))) (now (out .entry)) (now (out .exit)) (r .0) ⌝ }
 {
@@ -98,7 +98,7 @@ fn put_params(column: Column, n: Fields, keyid: &[u8], data: &[u8], out: &mut [u
 }
 
 // Id, version and parameters.
-fn put_head(column: Column, n: Fields, keyid: &[u8], data: &[u8], out: &mut [u8]) -> Chars
+fn put_head(column: Column, n: NumberFields, keyid: &[u8], data: &[u8], out: &mut [u8]) -> Chars
     requires { ⌜ length (headText (profileIn column) n (now keyid) (now «data»)) ≤ length (now out) ⌝ }
     ensures { λ r. ⌜ Wrote (headText (profileIn column) n (now (keyid .entry)) (now («data» .entry))) (now (out .entry)) (now (out .exit)) (r .0) ⌝ }
 {
@@ -114,7 +114,7 @@ fn put_head(column: Column, n: Fields, keyid: &[u8], data: &[u8], out: &mut [u8]
 // The whole string: each piece is lent what is left of the buffer.
 pub fn put_string(
     column: Column,
-    n: Fields,
+    n: NumberFields,
     keyid: &[u8],
     data: &[u8],
     salt: &[u8],

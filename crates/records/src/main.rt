@@ -6,7 +6,7 @@ use grammar::places::part;
 use libc::STDIN_FILENO;
 use libc::STDOUT_FILENO;
 use profile::fields::ByteString;
-use profile::fields::Fields;
+use profile::fields::NumberFields;
 use profile::reader::algorithm_version;
 use profile::reader::byte_string;
 use profile::reader::read;
@@ -18,7 +18,7 @@ use text::place::Written;
 use text::units::Bytes;
 
 // Room for the longest byte string, an output of 64 bytes.
-const ROOM: usize = 64;
+const LONGEST_PERMITTED: usize = 64;
 
 fn show(text: &[u8]) {
     io::write_all(STDOUT_FILENO, text);
@@ -60,7 +60,7 @@ fn hex(bytes: &[u8]) {
 
 // A tab and the bytes of a byte string; none where it is absent or the string is refused.
 fn bytes(s: &[u8], choice: ByteString) {
-    let mut buf = [0u8; ROOM];
+    let mut buf = [0u8; LONGEST_PERMITTED];
     let r = byte_string(s, choice, &mut buf, 0);
     show(b"\t");
     hex(front(&buf, r.count));
@@ -74,11 +74,11 @@ fn strings(s: &[u8]) {
 }
 
 // The fields of an accepted string, written back to the start of a buffer: the number fields as they were read, the byte strings decoded here.
-fn write_back(s: &[u8], fields: Fields, buf: &mut [u8]) -> Written {
-    let mut keyid = [0u8; ROOM];
-    let mut data = [0u8; ROOM];
-    let mut salt = [0u8; ROOM];
-    let mut output = [0u8; ROOM];
+fn write_back(s: &[u8], fields: NumberFields, buf: &mut [u8]) -> Written {
+    let mut keyid = [0u8; LONGEST_PERMITTED];
+    let mut data = [0u8; LONGEST_PERMITTED];
+    let mut salt = [0u8; LONGEST_PERMITTED];
+    let mut output = [0u8; LONGEST_PERMITTED];
     let k = byte_string(s, ByteString::Keyid, &mut keyid, 0);
     let d = byte_string(s, ByteString::Data, &mut data, 0);
     let t = byte_string(s, ByteString::Salt, &mut salt, 0);
@@ -94,7 +94,7 @@ fn write_back(s: &[u8], fields: Fields, buf: &mut [u8]) -> Written {
     )
 }
 
-fn show_written(s: &[u8], fields: Fields) {
+fn show_written(s: &[u8], fields: NumberFields) {
     let mut buf = [0u8; 300];
     let r = write_back(s, fields, &mut buf);
     let len = r.count;

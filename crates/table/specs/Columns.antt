@@ -24,7 +24,7 @@ paddedName name = length name ∷ (name ++ replicate (8 - length name) 0)
 abbrev pub nameTable : List ℕ
 nameTable = concat (map (λ (r : Profile). paddedName (r .name)) (noProfile ∷ editionTwo))
 
--- the name at an index of such a table; empty past the last
+-- the name at an index of such a table. Free answer: empty past the last; of another table what stands there, empty where it doesn't lie inside
 unfoldable pub nameIn : List ℕ → ℕ → List ℕ
 nameIn table k = cond (ltb k 6) (partAt table (span (k * 9 + 1) (getD table (k * 9) 0))) []
 
@@ -54,6 +54,6 @@ profileIn c =
       defaults = c .defaults;
     }
 
--- the index of an id's name; 0, where the empty one stands, for a number that is no id's
+-- the index of an id's name. Free answer: 0, where the empty one stands, for a number that is no id's
 abbrev pub nameIndex : ℕ → ℕ
 nameIndex k = cond (profileOf editionTwo k .known) k 0

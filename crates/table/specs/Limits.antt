@@ -1,5 +1,6 @@
 -- 'A reader and a writer for five profiles: `argon2d`, `argon2i`, `argon2id`, `pbkdf2s2`, `pbkdf2s3`': the table of what each allows, a column
--- for each id, in the order of the ids' numbers. An edition of the rules is such a table.
+-- for each id, in the order of the ids' numbers. Such a table is an edition of the rules; document 01's is edition two, since the older text
+-- that it replaces is to be the first.
 -- Assumes nothing.
 use Prim.Native.Nat.{ℕ, zero, suc, _*_}
 use mathlib.Core.Bool.{Bool, true, false, cond, _&&_}
@@ -17,8 +18,9 @@ use Rattle.table.specs.declared.limits.ShortDefaults.{ShortDefaults}
 use Rattle.table.specs.declared.version.Version.{Version}
 use Rattle.table.specs.declared.version.Version.the-variants.{Absent, Number}
 
--- 01's profile, a column of its table. Ids keep their numbers in every edition, so a column says whether its id is known. `versions` are those
--- that may be written; in every profile a version may also be absent. `implied` is the algorithm version that a string without a version means
+-- 01's profile, a column of its table. A column says whether its id is known, so that ids keep their numbers in every edition; in document 01's
+-- table every id is. `versions` are those that may be written; in every profile a version may also be absent. `implied` is the algorithm
+-- version that a string without a version means
 pub record Profile : Type 0 where
   pub known : Bool
   pub name : List ℕ
@@ -46,18 +48,27 @@ highest (Required low high) = high
 highest (Defaulted low high default) = high
 highest (Constant value) = value
 
--- in the range of its own rule. Of m this says nothing of the lanes: 1 to 7, which no p of 1 or more permits, are in its range, and m < 8p is a
--- row of its own
+-- in the range of its own rule. Of m this says nothing of the lanes: 1 to 7, which no p of 1 or more permits, are in its range, and m < 8p is
+-- a condition of its own in row 11
 abbrev pub inRange : NumberRule → ℕ → Bool
 inRange r n = within (lowest r) (highest r) n
 
--- a number is missing where it is required, or there where it is no parameter: by its text, where there is one
-abbrev pub misplacedNumber : NumberRule → OptionalText → Bool
-misplacedNumber (Required low high) none = true
-misplacedNumber (Required low high) (some t) = false
-misplacedNumber (Defaulted low high default) s = false
-misplacedNumber (Constant value) none = false
-misplacedNumber (Constant value) (some t) = true
+-- must stand in the string
+abbrev pub isRequired : NumberRule → Bool
+isRequired (Required low high) = true
+isRequired (Defaulted low high default) = false
+isRequired (Constant value) = false
+
+-- is no parameter of the id
+abbrev pub isConstant : NumberRule → Bool
+isConstant (Required low high) = false
+isConstant (Defaulted low high default) = false
+isConstant (Constant value) = true
+
+-- row 10 of one number, by its value's text where there is one: its name is missing, or unknown to the profile
+abbrev pub missingOrUnknownNumber : NumberRule → OptionalText → Bool
+missingOrUnknownNumber r none = isRequired r
+missingOrUnknownNumber r (some t) = isConstant r
 
 -- what stands for one that is left out. Free answer: 0 for one that is required
 abbrev pub defaultOf : NumberRule → ℕ
@@ -65,15 +76,16 @@ defaultOf (Required low high) = 0
 defaultOf (Defaulted low high n) = n
 defaultOf (Constant n) = n
 
--- left out of the string: its default, or no parameter
+-- left out of the string: its default, or no parameter. Free answer: of one that is no parameter any number is left out, though only its own
+-- is in range
 abbrev pub isOmitted : NumberRule → ℕ → Bool
 isOmitted (Required low high) n = false
 isOmitted (Defaulted low high default) n = eqb n default
 isOmitted (Constant value) n = true
 
--- m < 8p: fewer than eight kilobytes for each lane
-abbrev pub fewKilobytes : ℕ → ℕ → Bool
-fewKilobytes m p = ltb m (8 * p)
+-- m < 8p, in row 11: fewer than eight kilobytes for each lane
+abbrev pub memoryTooLittle : ℕ → ℕ → Bool
+memoryTooLittle m p = ltb m (8 * p)
 
 -- ---- of a byte string's size, and of a version
 
@@ -82,7 +94,7 @@ abbrev pub isSize : BytesRule → ℕ → Bool
 isSize (Sized low high) n = within (low .0) (high .0) n
 isSize Forbidden n = false
 
--- absent, or one of those listed. Free answer: with none listed, as for the number of no id, absent is allowed too; row 8 comes before
+-- absent, or one of those listed. Free answer: in the column of no profile absent is allowed; row 8 comes before
 abbrev pub versionAllowed : List ℕ → Version → Bool
 versionAllowed vs Absent = true
 versionAllowed vs (Number n) = has n vs
@@ -98,12 +110,12 @@ next (suc n) = suc (suc n)
 abbrev pub isNamed : List ℕ → Profile → Bool
 isNamed s r = r .known && same s (r .name)
 
--- the number of 01's id, counted from 1; 0 for a text that is none of the table's
+-- the number of 01's id, counted from 1. Free answer: 0 for a text that is none of the table's
 abbrev pub idOf : List Profile → List ℕ → ℕ
 idOf [] s = 0
 idOf (r ∷ rs) s = cond (isNamed s r) 1 (next (idOf rs s))
 
--- the column of a number that is no id's
+-- the column of a number that is no id's. Free answer: all but that it is not known, for which row 8 comes first
 abbrev pub noProfile : Profile
 noProfile =
     record {
@@ -148,7 +160,7 @@ defaultT = 20000
 abbrev pub pbkdf2Defaults : ShortDefaults
 pbkdf2Defaults = record { version = Absent; m = 0; t = defaultT; p = 0 }
 
--- m by itself begins at 1; that it is at least 8p is a row of its own, after the three numbers
+-- 'm: 8p to 2^32−1': m by itself begins at 1, as in document 002, and that it is at least 8p is tested after the three numbers
 abbrev pub argon2 : List ℕ → Profile
 argon2 name =
     record {
@@ -193,7 +205,7 @@ editionTwo =
     ∷ pbkdf2 (text "pbkdf2s3")
     ∷ []
 
--- 01's room, the bytes from a place to the buffer's end: so many are enough for every permitted string of edition two (`Lengths`, a claim of
--- the profile's)
-abbrev pub room : ℕ
-room = 265
+-- 'Longest Argon2 string 265 bytes': no permitted string of edition two has more (`Lengths`, a claim of the profile's), so a writer with so much
+-- room always has enough
+abbrev pub longestPermitted : ℕ
+longestPermitted = 265

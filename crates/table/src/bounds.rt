@@ -8,10 +8,10 @@ use crate::version::Version;
 use text::units::Bytes;
 ghost use mathlib.Core.Path.{_≡_};
 ghost use Rattle.text.specs.Text.{has};
-ghost use Rattle.table.specs.Limits.{inRange, fewKilobytes, isSize, versionAllowed};
+ghost use Rattle.table.specs.Limits.{inRange, memoryTooLittle, isSize, versionAllowed};
 ghost use Rattle.table.specs.Columns.{listed};
 
-// Whether a number is in the range of its own rule. That m is at least 8p is `few_kilobytes`.
+// Whether a number is in the range of its own rule. That m is at least 8p is `memory_too_little`.
 pub fn in_range(rule: NumberRule, n: u32) -> bool
     ensures { λ r. ⌜ r ≡ inRange rule n ⌝ }
 {
@@ -19,8 +19,8 @@ pub fn in_range(rule: NumberRule, n: u32) -> bool
 }
 
 // m < 8p, tested without a product that can wrap.
-pub fn few_kilobytes(m: u32, p: u32) -> bool
-    ensures { λ r. ⌜ r ≡ fewKilobytes m p ⌝ }
+pub fn memory_too_little(m: u32, p: u32) -> bool
+    ensures { λ r. ⌜ r ≡ memoryTooLittle m p ⌝ }
 {
     m / 8 < p
 }

@@ -2,8 +2,8 @@
 use crate::version::Version;
 use text::units::Bytes;
 
-// The bytes that every permitted string fits.
-pub const ROOM: usize = 265;
+// No permitted string has more bytes.
+pub const LONGEST_PERMITTED: usize = 265;
 
 // A number. Required: always written. Defaulted: left out where it is `default`. Constant: no parameter of this id, its number is `value`.
 pub enum NumberRule {

@@ -1,12 +1,11 @@
 // A number parameter that doesn't stand in the string.
 use crate::limits::NumberRule;
 ghost use mathlib.Core.Path.{_≡_};
-ghost use mathlib.Core.Option.{none};
-ghost use Rattle.table.specs.Limits.{misplacedNumber, defaultOf, isOmitted};
+ghost use Rattle.table.specs.Limits.{isRequired, defaultOf, isOmitted};
 
 // Whether it must stand there.
 pub fn is_required(rule: NumberRule) -> bool
-    ensures { λ r. ⌜ r ≡ misplacedNumber rule none ⌝ }
+    ensures { λ r. ⌜ r ≡ isRequired rule ⌝ }
 {
     match rule {
         NumberRule::Required { low: _, high: _ } => true,

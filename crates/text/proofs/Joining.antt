@@ -7,7 +7,7 @@ use native.Mathlib.Omega.{arith}
 use lib.ListN.{length, length-append}
 use mathlib.Core.Bool.{false, not, true≢false}
 use lib.Dec.{eqb}
-use Rattle.text.specs.Text.{join, has, Frees, empty}
+use Rattle.text.specs.Text.{join, has, NoneHas, empty}
 use Rattle.text.proofs.Tests.{or-false}
 use Rattle.text.proofs.Lists.{has-append}
 
@@ -43,7 +43,7 @@ length-five a b c d e =
 
 -- ---- a byte that no part has
 
-pub join-free : (d j : ℕ) → eqb j d ≡ false → (p : List ℕ) (qs : List (List ℕ)) → has d p ≡ false → Frees d qs → has d (join j p qs) ≡ false
+pub join-free : (d j : ℕ) → eqb j d ≡ false → (p : List ℕ) (qs : List (List ℕ)) → has d p ≡ false → NoneHas d qs → has d (join j p qs) ≡ false
 join-free d j e p [] h k = h
 join-free d j e p (q ∷ qs) h k = has-append d p (j ∷ join j q qs) h (or-false e (join-free d j e q qs (k .0) (k .1)))
 

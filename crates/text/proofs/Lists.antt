@@ -13,7 +13,7 @@ use lib.ListN.{length, take, getD, set, drop}
 use borrow.Author.Tests.{eqb-true, eq-eqb}
 use native.Mathlib.Numerals.{add-one}
 use lib.Seq.{drop-cons, getD-set-same, drop-set-lt, lt-length-set}
-use Rattle.text.specs.Text.{all, has, same, empty, Parts, putByte, split, join, cutByte, cut, headIf, tailIf, listOf, Frees, Fails, Fits, violates}
+use Rattle.text.specs.Text.{all, has, same, empty, Parts, putByte, split, join, cutByte, cut, headIf, tailIf, listOf, NoneHas, Fails, Fits, violates}
 use Rattle.text.proofs.Tests.{both, and-true, neither, or-false, either, not-of-true}
 
 -- ---- emptiness
@@ -100,7 +100,7 @@ split-append : (d : ℕ) (p r : List ℕ) → has d p ≡ false → split d (p +
 split-append d [] r e = rw (eq-eqb d d refl)
 split-append d (c ∷ p) r e = let q = neither (eqb c d) (has d p) e in rw (q .0, split-append d p r (q .1))
 
-pub split-join : (d : ℕ) (p : List ℕ) (qs : List (List ℕ)) → has d p ≡ false → Frees d qs → split d (join d p qs) ≡ (p, qs)
+pub split-join : (d : ℕ) (p : List ℕ) (qs : List (List ℕ)) → has d p ≡ false → NoneHas d qs → split d (join d p qs) ≡ (p, qs)
 split-join d p [] e h = split-free d p e
 split-join d p (q ∷ qs) e h = split-append d p (join d q qs) e ∙ rw (split-join d q qs (h .0) (h .1))
 

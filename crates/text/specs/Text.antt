@@ -111,9 +111,9 @@ join d p [] = p
 join d p (q ∷ qs) = p ++ d ∷ join d q qs
 
 -- no part has the separator
-abbrev pub Frees : ℕ → List (List ℕ) → Type 0
-Frees d [] = Unit {0}
-Frees d (p ∷ ps) = (has d p ≡ false) × Frees d ps
+abbrev pub NoneHas : ℕ → List (List ℕ) → Type 0
+NoneHas d [] = Unit {0}
+NoneHas d (p ∷ ps) = (has d p ≡ false) × NoneHas d ps
 
 -- ---- before and after the first separator
 

@@ -5,7 +5,7 @@ ghost use mathlib.Core.Path.{_≡_};
 ghost use lib.ListN.{length, drop};
 ghost use Rattle.text.specs.Text.{lineFeed, nextAt, cut};
 
-// The line at a place, without its line feed; empty past the end.
+// The line at a place, without its line feed. Free answer: empty past the end.
 pub fn line_at(s: &[u8], at: usize) -> &[u8]
     ensures { λ r. ⌜ now r ≡ cut lineFeed (drop at (now (s .entry))) .0 ⌝ }
 {
@@ -16,7 +16,7 @@ pub fn line_at(s: &[u8], at: usize) -> &[u8]
     &s[at..end]
 }
 
-// The place after that line and its line feed; the end where no line follows.
+// The place after that line and its line feed; the end where no line follows. Free answer: the end from past it.
 pub fn after_line(s: &[u8], at: usize) -> usize
     ensures { λ r. ⌜ r ≡ min (nextAt lineFeed (now (s .entry)) at + 1) (length (now (s .entry))) ⌝ }
 {

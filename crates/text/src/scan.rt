@@ -35,7 +35,7 @@ pub fn same_text(a: &[u8], b: &[u8]) -> bool
     true
 }
 
-// The part at an index from 0 between the separators; empty past the last.
+// The part at an index from 0 between the separators. Free answer: empty past the last.
 pub fn nth_part(s: &[u8], separator: u8, index: usize) -> &[u8]
     ensures { λ r. ⌜ now r ≡ getD (parts separator (now (s .entry))) index [] ⌝ }
 {

@@ -7,7 +7,7 @@ use grammar::places::Span;
 use grammar::places::part;
 use libc::STDIN_FILENO;
 use libc::STDOUT_FILENO;
-use profile::fields::Fields;
+use profile::fields::NumberFields;
 use profile::writer::write;
 use profile::writer::write_short;
 use table::version::Version;
@@ -22,7 +22,7 @@ ghost use Prim.Native.Nat.{_≤_};
 const PLACE: usize = 17;
 
 // Room for a byte string: more than any limit, so that one byte too many reaches the writer.
-const ROOM: usize = 80;
+const LONGEST_PERMITTED: usize = 80;
 
 fn show(text: &[u8]) {
     io::write_all(STDOUT_FILENO, text);
@@ -92,17 +92,17 @@ fn front(buf: &[u8], count: usize) -> &[u8] {
 
 // The writer, on all columns.
 fn write_fields(line: &[u8], buf: &mut [u8]) -> Written {
-    let fields = Fields {
+    let fields = NumberFields {
         id: id(line),
         version: version(line),
         m: number(line, 2),
         t: number(line, 3),
         p: number(line, 4),
     };
-    let mut keyid = [0u8; ROOM];
-    let mut data = [0u8; ROOM];
-    let mut salt = [0u8; ROOM];
-    let mut output = [0u8; ROOM];
+    let mut keyid = [0u8; LONGEST_PERMITTED];
+    let mut data = [0u8; LONGEST_PERMITTED];
+    let mut salt = [0u8; LONGEST_PERMITTED];
+    let mut output = [0u8; LONGEST_PERMITTED];
     let k = decode_hex(column(line, 5), &mut keyid);
     let d = decode_hex(column(line, 6), &mut data);
     let s = decode_hex(column(line, 7), &mut salt);
@@ -119,9 +119,9 @@ fn write_fields(line: &[u8], buf: &mut [u8]) -> Written {
 }
 
 // The short writer, on id, salt and output.
-fn write_usual(line: &[u8], buf: &mut [u8]) -> Written {
-    let mut salt = [0u8; ROOM];
-    let mut output = [0u8; ROOM];
+fn write_short_defaults(line: &[u8], buf: &mut [u8]) -> Written {
+    let mut salt = [0u8; LONGEST_PERMITTED];
+    let mut output = [0u8; LONGEST_PERMITTED];
     let s = decode_hex(column(line, 7), &mut salt);
     let o = decode_hex(column(line, 8), &mut output);
     write_short(id(line), front(&salt, s), front(&output, o), buf, PLACE)
@@ -129,7 +129,7 @@ fn write_usual(line: &[u8], buf: &mut [u8]) -> Written {
 
 fn write_line(line: &[u8], buf: &mut [u8]) -> Written {
     if same_text(column(line, 1), b"short") {
-        return write_usual(line, buf);
+        return write_short_defaults(line, buf);
     }
     write_fields(line, buf)
 }

@@ -1,7 +1,7 @@
 -- `fast_path::walk::numbers` meets its contract. Assumes nothing.
 use mathlib.Core.Path.{sym, _∙_}
 use borrow.Author.Needs.{needs}
-use Rattle.fast_path.proofs.Chains.{no-m, no-t, no-p, few-kilobytes, all-numbers}
+use Rattle.fast_path.proofs.Chains.{no-m, no-t, no-p, memory-too-little, all-numbers}
 use Rattle.fast_path.proofs.walk.numbers.Statement.{statement}
 use Rattle.fast_path.proofs.walk.numbers.Tie as tie
 
@@ -27,7 +27,7 @@ returns c =
     let h = rw (m .m .given .1) at (m .before .before .number-item .ensures) in
     let i = rw (t .t .given .1) at (t .before .before .number-item2 .ensures) in
     let j = rw (p .p .given .1) at (p .before .before .number-item3 .ensures) in
-    few-kilobytes _ _ _ _ _ _ _ (h .0) _ _ _ (i .0) _ _ _ (j .0) (sym (k .few-kilobytes .ensures) ∙ c .if1 .taken)
+    memory-too-little _ _ _ _ _ _ _ (h .0) _ _ _ (i .0) _ _ _ (j .0) (sym (k .memory-too-little .ensures) ∙ c .if1 .taken)
 
 returns-2 : tie.Need-returns-2
 returns-2 c = no-m _ _ _ _ (rw (c .enum-told .given .1) at (c .before .before .number-item .ensures))
@@ -55,7 +55,7 @@ returns-5 c =
     let h = rw (m .m .given .1) at (m .before .before .number-item .ensures) in
     let i = rw (t .t .given .1) at (t .before .before .number-item2 .ensures) in
     let j = rw (p .p .given .1) at (p .before .before .number-item3 .ensures) in
-    (all-numbers _ _ _ _ _ _ _ (h .0) _ _ _ (i .0) _ _ _ (j .0) (sym (k .few-kilobytes .ensures) ∙ c .if1 .left), j .1)
+    (all-numbers _ _ _ _ _ _ _ (h .0) _ _ _ (i .0) _ _ _ (j .0) (sym (k .memory-too-little .ensures) ∙ c .if1 .left), j .1)
 
 pub numbers-spec : {M : Type 1} → statement M
 numbers-spec =

@@ -11,7 +11,7 @@ use Rattle.text.proofs.Rows.{rows-stop, rows-next}
 use Rattle.grammar.specs.Pieces.{OptionalText}
 use Rattle.table.specs.Limits.{Profile}
 use Rattle.table.specs.Columns.{profileIn}
-use Rattle.profile.specs.Reader.{misplaced, numberRows, spellingRows, rowsFor}
+use Rattle.profile.specs.Reader.{missingOrUnknown, numberRows, bytesAndDefaultRows, rowsFor}
 use Rattle.profile.specs.ReaderSteps.{spanText, spanTexts, NumbersAre, Judged}
 use Rattle.profile.specs.declared.judge.Judgement.{Judgement}
 use Rattle.profile.proofs.JudgeLaws.{ten-unmatched, ten-missing, ten-clear, judged-refused, judged-accepted, judged-before}
@@ -38,7 +38,7 @@ abbrev numbers : tie.Start → List Row
 numbers a = numberRows (entry a) (values a)
 
 abbrev spelling : tie.Start → List Row
-spelling a = spellingRows (entry a) (values a)
+spelling a = bytesAndDefaultRows (entry a) (values a)
 
 refuse : (a : tie.Start) (j : Judgement) (n : ℕ) → j ≡ record { number = n; m = 0; t = 0; p = 0 } → firstOf (rows a) ≡ n → (n ≡ 0 → ⊥) → Judged (rows a) (entry a) (values a) j
 refuse a j n e h z = judged-refused (rows a) (entry a) (values a) j n e h z
@@ -69,8 +69,8 @@ abbrev at-8 : tie.Else8 → tie.Start
 at-8 c = at-7 (c .before .before)
 
 -- what each step was told, of the column
-misplaced-is : (c : tie.After-is-misplaced) → c .is-misplaced .result ≡ misplaced (entry (at-3 (c .before))) (values (at-3 (c .before)))
-misplaced-is c = c .is-misplaced .ensures (now (at-3 (c .before) .args .params))
+names-are : (c : tie.After-missing-or-unknown-names) → c .missing-or-unknown-names .result ≡ missingOrUnknown (entry (at-3 (c .before))) (values (at-3 (c .before)))
+names-are c = c .missing-or-unknown-names .ensures (now (at-3 (c .before) .args .params))
 
 -- past each row that does not apply
 past-8 : (c : tie.Else1) → firstOf (rows (at-1 c)) ≡ firstOf (drop 1 (rows (at-1 c)))
@@ -80,7 +80,7 @@ past-9 : (c : tie.Else2) → firstOf (rows (at-2 c)) ≡ firstOf (drop 2 (rows (
 past-9 c = past-8 (c .before .before) ∙ rw (← c .before .version-allowed .ensures, c .if2 .left)
 
 past-10 : (c : tie.Else4) → firstOf (rows (at-4 c)) ≡ firstOf (drop 3 (rows (at-4 c)))
-past-10 c = past-9 (c .before .before .before) ∙ ten-clear (at-4 c .args .values .unmatched) (misplaced (entry (at-4 c)) (values (at-4 c))) (drop 3 (rows (at-4 c))) (c .before .before .if3 .left) (sym (misplaced-is (c .before)) ∙ c .if4 .left)
+past-10 c = past-9 (c .before .before .before) ∙ ten-clear (at-4 c .args .values .unmatched) (missingOrUnknown (entry (at-4 c)) (values (at-4 c))) (drop 3 (rows (at-4 c))) (c .before .before .if3 .left) (sym (names-are (c .before)) ∙ c .if4 .left)
 
 past-11 : (c : tie.Else5) → firstOf (rows (at-5 c)) ≡ firstOf (drop 7 (rows (at-5 c)))
 past-11 c =
@@ -90,7 +90,7 @@ past-11 c =
 past-13 : (c : tie.Else6) → firstOf (rows (at-6 c)) ≡ firstOf (drop 12 (rows (at-6 c)))
 past-13 c =
     past-11 (c .before .before)
-    ∙ rows-next (spelling (at-6 c)) (drop 12 (rows (at-6 c))) (c .before .bytes-and-spelling .result) refl (c .before .bytes-and-spelling .ensures) (c .if6 .left)
+    ∙ rows-next (spelling (at-6 c)) (drop 12 (rows (at-6 c))) (c .before .bytes-and-defaults .result) refl (c .before .bytes-and-defaults .ensures) (c .if6 .left)
 
 past-14 : (c : tie.Else7) → firstOf (rows (at-7 c)) ≡ firstOf (drop 13 (rows (at-7 c)))
 past-14 c = past-13 (c .before .before) ∙ rw (← c .before .bad-bytes .ensures, c .if7 .left)
@@ -114,12 +114,12 @@ returns-2 c =
 returns-3 : tie.Need-returns-3
 returns-3 c =
     let a = at-2 (c .before .before) in
-    refuse a (c .refused3 .result) 10 (c .refused3 .ensures) (past-9 (c .before .before) ∙ ten-unmatched (a .args .values .unmatched) (misplaced (entry a) (values a)) (drop 3 (rows a)) (c .before .if3 .taken)) (λ z. absurd (omega arith))
+    refuse a (c .refused3 .result) 10 (c .refused3 .ensures) (past-9 (c .before .before) ∙ ten-unmatched (a .args .values .unmatched) (missingOrUnknown (entry a) (values a)) (drop 3 (rows a)) (c .before .if3 .taken)) (λ z. absurd (omega arith))
 
 returns-4 : tie.Need-returns-4
 returns-4 c =
     let a = at-3 (c .before .before .before) in
-    refuse a (c .refused4 .result) 10 (c .refused4 .ensures) (past-9 (c .before .before .before .before) ∙ ten-missing (a .args .values .unmatched) (misplaced (entry a) (values a)) (drop 3 (rows a)) (c .before .before .before .if3 .left) (sym (misplaced-is (c .before .before)) ∙ c .before .if4 .taken)) (λ z. absurd (omega arith))
+    refuse a (c .refused4 .result) 10 (c .refused4 .ensures) (past-9 (c .before .before .before .before) ∙ ten-missing (a .args .values .unmatched) (missingOrUnknown (entry a) (values a)) (drop 3 (rows a)) (c .before .before .before .if3 .left) (sym (names-are (c .before .before)) ∙ c .before .if4 .taken)) (λ z. absurd (omega arith))
 
 returns-5 : tie.Need-returns-5
 returns-5 c =
@@ -127,8 +127,8 @@ returns-5 c =
     let a = at-4 (r .before) in
     judged-before (numbers a) (drop 7 (rows a)) (entry a) (values a) (r .read-numbers .result) (r .read-numbers .ensures) (c .if5 .taken) (rows a) (past-10 (r .before))
 
-bytes-and-spelling-requires : tie.Need-bytes-and-spelling-requires
-bytes-and-spelling-requires c κs =
+bytes-and-defaults-requires : tie.Need-bytes-and-defaults-requires
+bytes-and-defaults-requires c κs =
     let r = c .before .before in
     r .read-numbers .ensures .numbers-are (sym (r .read-numbers .ensures .number-is) ∙ c .if5 .left)
 
@@ -136,8 +136,8 @@ returns-6 : tie.Need-returns-6
 returns-6 c =
     let b = c .before .before in
     let a = at-5 (b .before) in
-    refuse a (c .refused5 .result) (b .bytes-and-spelling .result) (c .refused5 .ensures)
-    (past-11 (b .before) ∙ rows-stop (spelling a) (drop 12 (rows a)) (b .bytes-and-spelling .result) (b .bytes-and-spelling .ensures) (c .before .if6 .taken))
+    refuse a (c .refused5 .result) (b .bytes-and-defaults .result) (c .refused5 .ensures)
+    (past-11 (b .before) ∙ rows-stop (spelling a) (drop 12 (rows a)) (b .bytes-and-defaults .result) (b .bytes-and-defaults .ensures) (c .before .if6 .taken))
     (c .before .if6 .taken)
 
 returns-7 : tie.Need-returns-7
@@ -171,7 +171,7 @@ judge-spec =
     returns-4
     (λ c κs. search needs)
     returns-5
-    bytes-and-spelling-requires
+    bytes-and-defaults-requires
     (λ c κs. search needs)
     returns-6
     (λ c κs. search needs)

@@ -8,7 +8,7 @@ use denote.Ref.{now}
 use Rattle.text.specs.Rows.{Row, row, firstOf}
 use Rattle.text.proofs.Rows.{rows-stop, rows-next}
 use Rattle.grammar.specs.Pieces.{OptionalText}
-use Rattle.table.specs.Limits.{Profile, fewKilobytes}
+use Rattle.table.specs.Limits.{Profile, memoryTooLittle}
 use Rattle.table.specs.Columns.{profileIn}
 use Rattle.profile.specs.Fields.{readNumber}
 use Rattle.profile.specs.Reader.{valueAt, numberRow, numberRows}
@@ -38,7 +38,7 @@ abbrev p-rows : tie.Start → List Row
 p-rows a = numberRow (entry a .p) (valueAt (values a) 2)
 
 abbrev last : tie.Start → List Row
-last a = row 11 (fewKilobytes (readNumber (entry a .m) (valueAt (values a) 0)) (readNumber (entry a .p) (valueAt (values a) 2))) ∷ []
+last a = row 11 (memoryTooLittle (readNumber (entry a .m) (valueAt (values a) 0)) (readNumber (entry a .p) (valueAt (values a) 2))) ∷ []
 
 -- where the function began, from each number
 abbrev at-m : tie.After-read-number → tie.Start
@@ -73,13 +73,13 @@ past-p c =
     past-t (p .before .before) ∙ rows-next (p-rows a) (last a) (p .read-number3 .result .number) refl (p .read-number3 .ensures .0) (c .if3 .left)
 
 -- whether m is below 8p, as the test came out
-below : (c : tie.After-few-kilobytes)
+below : (c : tie.After-memory-too-little)
     → let p = c .before .before .before in
-    firstOf (rows (at-m (to-m (to-t p)))) ≡ firstOf (row 11 (c .few-kilobytes .result) ∷ [])
+    firstOf (rows (at-m (to-m (to-t p)))) ≡ firstOf (row 11 (c .memory-too-little .result) ∷ [])
 below c =
     let p = c .before .before .before in
     let m = to-m (to-t p) in
-    past-p (c .before) ∙ rw (← m .read-number .ensures .1, ← p .read-number3 .ensures .1, ← c .few-kilobytes .ensures)
+    past-p (c .before) ∙ rw (← m .read-number .ensures .1, ← p .read-number3 .ensures .1, ← c .memory-too-little .ensures)
 
 returns : tie.Need-returns
 returns c =

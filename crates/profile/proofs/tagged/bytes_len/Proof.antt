@@ -8,7 +8,7 @@ use lib.ListN.{length}
 use Rattle.text.proofs.Lists.{length-nil}
 use Rattle.b64.specs.B64.{encode}
 use Rattle.b64.proofs.B64Laws.{length-encode}
-use Rattle.table.specs.Limits.{room}
+use Rattle.table.specs.Limits.{longestPermitted}
 use Rattle.profile.specs.Fields.{writeBytes}
 use Rattle.profile.specs.PieceTexts.{taggedLength}
 use Rattle.profile.proofs.WriterLaws.{some-bytes}
@@ -21,7 +21,7 @@ at-else c = c .before .before
 there : (c : tie.Else1) → taggedLength (at-else c .args .tag .0) (writeBytes (now (at-else c .args .bytes))) ≡ at-else c .args .tag .0 + length (encode (now (at-else c .args .bytes)))
 there c = rw (some-bytes (now (at-else c .args .bytes)) (c .if1 .left))
 
-fits : (c : tie.Else1) → at-else c .args .tag .0 + length (encode (now (at-else c .args .bytes))) ≤ room
+fits : (c : tie.Else1) → at-else c .args .tag .0 + length (encode (now (at-else c .args .bytes))) ≤ longestPermitted
 fits c = rw (there c) at (at-else c .pre)
 
 counted : (c : tie.After-encoded-len) → c .encoded-len .result .0 ≡ length (encode (now (at-else (c .before) .args .bytes)))

@@ -14,7 +14,7 @@ use Rattle.text.proofs.Writers.{Asked, writer-fits, writer-full, writer-room, w
 use Rattle.table.specs.Limits.{Profile, editionTwo}
 use Rattle.table.specs.Columns.{profileIn}
 use Rattle.profile.specs.Fields.{FieldSet, fieldSet}
-use Rattle.profile.specs.Writer.{columnRows, refusal, formatted}
+use Rattle.profile.specs.Writer.{columnRows, writerNumber, formatted}
 use Rattle.profile.specs.Entries.{writing}
 use Rattle.profile.proofs.WriterLaws.{fits-room, text-by, string-asked, writing-clear}
 use Rattle.profile.proofs.writer.write.Statement.{statement}
@@ -37,8 +37,8 @@ clear : (c : tie.Else1) → firstOf (columnRows (entry c) (fields (at-clear c)))
 clear c = sym (c .before .refusal-of .ensures) ∙ c .if1 .left
 
 -- the writer's number
-refused-is : (c : tie.After-refusal-of) → refusal editionTwo (fields (at-refusal c)) ≡ c .refusal-of .result
-unfolding refusal
+refused-is : (c : tie.After-refusal-of) → writerNumber editionTwo (fields (at-refusal c)) ≡ c .refusal-of .result
+unfolding writerNumber
 refused-is c = ap (λ (r : Profile). firstOf (columnRows r (fields (at-refusal c)))) (sym (c .before .column-of .ensures .0)) ∙ sym (c .refusal-of .ensures)
 
 returns : tie.Need-returns
@@ -46,7 +46,7 @@ unfolding writing
 returns c =
     let r = c .before in
     let s = at-refusal r in
-    put-refused (now (s .args .buf)) (s .args .at) (formatted editionTwo (fields s)) (refusal editionTwo (fields s)) (r .refusal-of .result) (refused-is r) (omega (arith, c .if1 .taken))
+    put-refused (now (s .args .buf)) (s .args .at) (formatted editionTwo (fields s)) (writerNumber editionTwo (fields s)) (r .refusal-of .result) (refused-is r) (omega (arith, c .if1 .taken))
 
 string-len-requires : tie.Need-string-len-requires
 string-len-requires c κs = fits-room (fields (at-clear c)) (entry c) (c .before .before .column-of .ensures .0) (clear c)

@@ -32,10 +32,10 @@ returns-3 : tie.Need-returns-3
 returns-3 c = sym (past-2 (c .before .before) ∙ rw (← c .before .in-range3 .ensures, c .if3 .taken))
 
 returns-4 : tie.Need-returns-4
-returns-4 c = sym (past-3 (c .before .before) ∙ rw (← c .before .few-kilobytes .ensures, c .if4 .taken))
+returns-4 c = sym (past-3 (c .before .before) ∙ rw (← c .before .memory-too-little .ensures, c .if4 .taken))
 
 returns-5 : tie.Need-returns-5
-returns-5 c = sym (past-3 (c .before .before) ∙ rw (← c .before .few-kilobytes .ensures, c .if4 .left))
+returns-5 c = sym (past-3 (c .before .before) ∙ rw (← c .before .memory-too-little .ensures, c .if4 .left))
 
 pub bad-numbers-spec : {M : Type 1} → statement M
 bad-numbers-spec =

@@ -1,4 +1,4 @@
--- `profile::judge::bytes_and_spelling` meets its contract. Assumes nothing.
+-- `profile::judge::bytes_and_defaults` meets its contract. Assumes nothing.
 use Prim.Native.Nat.{ℕ}
 use borrow.Author.Needs.{needs}
 use mathlib.Core.Bool.{Bool}
@@ -11,10 +11,10 @@ use Rattle.grammar.specs.Pieces.{OptionalText}
 use Rattle.table.specs.Limits.{Profile}
 use Rattle.table.specs.Columns.{profileIn}
 use Rattle.profile.specs.Fields.{isBytes, writtenOut}
-use Rattle.profile.specs.Reader.{valueAt, spellingRows}
+use Rattle.profile.specs.Reader.{valueAt, bytesAndDefaultRows}
 use Rattle.profile.specs.ReaderSteps.{spanTexts, NumbersAre}
-use Rattle.profile.proofs.judge.bytes_and_spelling.Statement.{statement}
-use Rattle.profile.proofs.judge.bytes_and_spelling.Tie as tie
+use Rattle.profile.proofs.judge.bytes_and_defaults.Statement.{statement}
+use Rattle.profile.proofs.judge.bytes_and_defaults.Tie as tie
 
 -- the column, the values of the names, and the tests
 abbrev entry : tie.Start → Profile
@@ -24,7 +24,7 @@ abbrev values : tie.Start → List OptionalText
 values a = spanTexts (now (a .args .params)) (a .args .values)
 
 abbrev spelling : tie.Start → ℕ
-spelling a = firstOf (spellingRows (entry a) (values a))
+spelling a = firstOf (bytesAndDefaultRows (entry a) (values a))
 
 abbrev «data» : tie.Start → Bool
 «data» a = violates (isBytes (entry a .«data»)) (valueAt (values a) 4)
@@ -96,8 +96,8 @@ returns-5 c = sym (past-4 (c .before .before .before) ∙ rw (← told-p (c .bef
 returns-6 : tie.Need-returns-6
 returns-6 c = sym (past-4 (c .before .before .before) ∙ rw (← told-p (c .before), c .if5 .left))
 
-pub bytes-and-spelling-spec : {M : Type 1} → statement M
-bytes-and-spelling-spec =
+pub bytes-and-defaults-spec : {M : Type 1} → statement M
+bytes-and-defaults-spec =
     tie.close
     (tie.spec
     (λ c κs. search needs)
