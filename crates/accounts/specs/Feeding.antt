@@ -1,5 +1,6 @@
--- The listing of input that comes in parts. A state is an array of 513 bytes, the count of
--- those kept, and the number of the line.
+-- 'Each line's number is 18 or 19 where that row applies, and otherwise the one the profile reader gives for that line's own string, and the
+-- library promises it for every line': of input that comes in parts. A state is an array of 513 bytes, the count of those kept, and the number of
+-- the line.
 -- Assumes nothing.
 use Prim.Native.Nat.{ℕ, suc, _+_}
 use mathlib.Core.Bool.{cond}

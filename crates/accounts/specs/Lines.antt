@@ -41,6 +41,7 @@ stringOf l = cut tab l .1
 abbrev pub longestLine : ℕ
 longestLine = 512
 
+-- 'Row 18 is tried before 19, then 1 to 15'
 abbrev pub lineRows : List ℕ → List Row
 lineRows l =
     row 18 (ltb longestLine (length l))

@@ -21,7 +21,7 @@ kindText k = cond (eqb k 1) (text "parameters") (cond (eqb k 2) (text "salt") (c
 abbrev pub kindLine : ℕ → List ℕ
 kindLine k = kindText k ++ (lineFeed ∷ [])
 
--- the number of a line, its answer and its kind
+-- the number of a line, its answer and its kind. Free answer: an answer made by hand is shown as it is
 unfoldable pub rowText : ℕ → Answer → List ℕ
 rowText n a = digits n ++ (tab ∷ []) ++ digits (a .number) ++ (tab ∷ []) ++ kindLine (a .kind)
 

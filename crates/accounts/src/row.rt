@@ -69,7 +69,7 @@ fn put_row(line: u64, answer: Answer, out: &mut [u8]) -> Chars
     Chars(before_kind + e.count.0)
 }
 
-// A row of the listing, into `buf` from `at` on. 17: it doesn't fit.
+// A row of the listing, into `buf` from `at` on. 17: it doesn't fit. Free answer: a kind past 3 is shown as `-`.
 pub fn write_row(line: u64, answer: Answer, buf: &mut [u8], at: usize) -> Written
     ensures { λ r. ⌜ outcome (r .number) (r .count .0) (now (buf .exit)) ≡ put (now (buf .entry)) at (rowText line answer) ⌝ }
 {

@@ -4,7 +4,7 @@ use text::units::Chars;
 ghost use mathlib.Core.Path.{_≡_};
 ghost use Rattle.b64.specs.Lengths.{bytesOf, charsWithin};
 
-// The bytes that so many characters of B64 hold.
+// The bytes that so many characters of B64 hold. Free answer: a single character left over holds none.
 pub fn decoded_len(n: Chars) -> Bytes
     ensures { λ r. ⌜ r .0 ≡ bytesOf (n .0) ⌝ }
 {
@@ -12,7 +12,7 @@ pub fn decoded_len(n: Chars) -> Bytes
     Bytes(k / 4 * 3 + k % 4 * 3 / 4)
 }
 
-// The characters of B64 that so many bytes take; the largest usize where that is more.
+// The characters of B64 that so many bytes take. Free answer: the largest usize where that is more.
 pub fn encoded_len(n: Bytes) -> Chars
     ensures { λ r. ⌜ r .0 ≡ charsWithin (n .0) ⌝ }
 {

@@ -72,7 +72,8 @@ fn read_unsigned(text: &[u8], limit: u64) -> Limited
     value_up_to(text, limit)
 }
 
-// A text of any length read as a decimal from `low` to `high`. A negative decimal is one, and outside.
+// A text of any length read as a decimal from `low` to `high`. A negative decimal is one, and outside. Free answer: where `low` is past
+// `high` every decimal is outside.
 pub fn read_within(text: &[u8], low: u64, high: u64) -> Limited
     ensures { λ r. ⌜ r ≡ limitedReading low high (now (text .entry)) ⌝ }
 {

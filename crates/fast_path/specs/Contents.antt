@@ -1,5 +1,5 @@
 -- All that a string carries in one call: the profile reader's answer, how many bytes each byte string has, and the four byte strings, one after
--- the other, from the place on; 1 to 15, then 17, with zeros.
+-- the other, from the place on; 1 to 15, then 17, with zeros. Nothing here is a rule of document 01.
 -- Assumes nothing.
 use Prim.Native.Nat.{ℕ}
 use mathlib.Core.Bool.{cond}

@@ -1,5 +1,5 @@
--- 'Id and parameter names: each of the ranges `a`..`z`, `0`..`9`, or the minus sign. A value has bytes of `[a-zA-Z0-9/+.-]`': the classes of bytes
--- that the rules name, and the separators.
+-- 'Id and parameter names: each of the ranges `a`..`z`, `0`..`9`, or the minus sign. A value has 1 to 128 bytes of `[a-zA-Z0-9/+.-]`': the
+-- classes of bytes that the rules name, and the separators.
 -- Assumes nothing.
 use Prim.Native.Nat.{ℕ}
 use mathlib.Core.Bool.{Bool, _&&_, _||_}

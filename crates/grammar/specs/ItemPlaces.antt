@@ -1,4 +1,4 @@
--- Where an item stands in its parameter piece.
+-- Where an item stands in its parameter piece. Nothing here is a rule of document 01.
 -- Assumes nothing.
 use Prim.Native.Nat.{ℕ, _+_}
 use mathlib.Core.Bool.{cond}

@@ -12,7 +12,8 @@ pub struct ItemPlace {
     pub next: usize,
 }
 
-// The item that begins at a place, read no further than its comma. Past the end nothing stands, and the next place is the same.
+// The item that begins at a place, read no further than its comma. Free answer: past the end nothing stands, and the next place is the
+// same.
 pub fn item_place(params: &[u8], at: usize) -> ItemPlace
     ensures { λ r. ⌜ r ≡ itemPlace (now (params .entry)) at ⌝ }
 {

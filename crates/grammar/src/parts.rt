@@ -18,14 +18,14 @@ pub fn piece(s: &[u8], which: Piece) -> &[u8]
     part(s, span_of(places, which))
 }
 
-// The name of the item at an index from 0; empty past the last.
+// The name of the item at an index from 0; empty past the last, or where the string is refused.
 pub fn item_name(s: &[u8], index: usize) -> &[u8]
     ensures { λ r. ⌜ now r ≡ itemAt (now (s .entry)) index .0 ⌝ }
 {
     name_part(nth_part(piece(s, Piece::Params), b',', index))
 }
 
-// The value of the item at an index from 0; empty past the last.
+// The value of the item at an index from 0; empty past the last, or where the string is refused.
 pub fn item_value(s: &[u8], index: usize) -> &[u8]
     ensures { λ r. ⌜ now r ≡ itemAt (now (s .entry)) index .1 ⌝ }
 {

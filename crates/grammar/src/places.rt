@@ -42,7 +42,7 @@ pub fn span_of(places: Places, which: Piece) -> Span
     }
 }
 
-// The part at a place and of a length; empty where it doesn't lie inside.
+// The part at a place and of a length. Free answer: empty where it doesn't lie inside.
 pub fn part(s: &[u8], span: Span) -> &[u8]
     ensures { λ r. ⌜ now r ≡ partAt (now (s .entry)) span ⌝ }
 {

@@ -21,7 +21,8 @@ fn version_field(has_version: u8, version: u32) -> Version
     }
 }
 
-// The string into the buffer from its start: a hundred times the count, or the refusal's number.
+// The string into the buffer from its start: a hundred times the count, or the refusal's number. Free answer: a flag other than 0 and 1 is 9, or
+// 8 where the id is unknown.
 #[no_mangle]
 pub extern "C" fn phc_write(
     id: u8,

@@ -44,7 +44,8 @@ abbrev pub isShortWriterNumber : ℕ → Bool
 isShortWriterNumber n = has n shortWriterNumbers
 
 -- 'Bad input gets a number from document 01's list and an all-zero record; an entry that hands back a part hands back an empty one; no byte of a
--- lent buffer changes': an all-zero record has no version; a refusal into a buffer counts 0
+-- lent buffer changes': an all-zero record has no version; a refusal into a buffer counts 0. Of the helpers, `read_all` and the listing the
+-- definitions that their contracts cite say it at once (`put`, `putAfter`, `decimalAnswer`, `refusedContents`, `NoRoom`)
 pub record Demand1 (e : List Profile) : Type 0 where
   pub read : (s : List ℕ) → reading e s .number ≢ 0
       → (isReaderNumber (reading e s .number) ≡ true) × (reading e s ≡ refusedReading (reading e s .number))
@@ -54,6 +55,9 @@ pub record Demand1 (e : List Profile) : Type 0 where
   pub write-short : (k : ℕ) (salt output buffer : List ℕ) (at : ℕ) → Refuses isShortWriterNumber buffer (shortWriting e k salt output buffer at)
   -- the grammar reader, and the parts
   pub grammar : GrammarRefusals
+
+-- ---- demand 2: no record here. It is the contracts: what a public entry gives is equated with a definition (specs/Entries.antt), over the rules of
+-- specs/Reader.antt and specs/Writer.antt
 
 -- ---- demand 3
 
@@ -115,7 +119,7 @@ pub record ShortAgrees (e : List Profile) : Type 0 where
   pub permitted : (k : ℕ) (salt output : List ℕ) → shortWriterNumber e k salt output ≡ 0 → all isByte salt ≡ true → all isByte output ≡ true
       → Permitted e (shortFields e k salt output)
 
--- 'The short writer takes id, salt and output and uses version 19, m=65536, t=2, p=1 for Argon2, t=20,000 for pbkdf2, no keyid, no data': of the
+-- 'A short writer takes id, salt and output and uses version 19, m=65536, t=2, p=1 for Argon2, t=20,000 for pbkdf2, no keyid, no data': of the
 -- ids 1 to 3, and 4 and 5
 pub record ShortFields : Type 0 where
   pub argon2 : (salt output : List ℕ)
@@ -135,7 +139,7 @@ pub record AlgorithmVersions : Type 0 where
   pub pbkdf2 : (s : List ℕ) → reading editionTwo s .number ≡ 0 → 4 ≤ reading editionTwo s .fields .id
       → algorithmVersion editionTwo s ≡ record { number = 0; version = 0 }
 
--- every accepted Argon2 string has at least one lane, and eight kilobytes for each; ids 1 to 3 are Argon2's
+-- every accepted Argon2 string has at least one lane, and eight kilobytes for each: p is at least 1, and m at least 8p; ids 1 to 3 are Argon2's
 pub record Lanes : Type 0 where
   pub lane : (s : List ℕ) → reading editionTwo s .number ≡ 0 → reading editionTwo s .fields .id ≤ 3
       → (1 ≤ reading editionTwo s .fields .p) × (8 * reading editionTwo s .fields .p ≤ reading editionTwo s .fields .m)

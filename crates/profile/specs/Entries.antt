@@ -28,6 +28,7 @@ noFields = record { id = 0; version = Absent; m = 0; t = 0; p = 0 }
 abbrev pub refusedReading : ℕ → Reading
 refusedReading n = record { number = n; kind = 0; fields = noFields }
 
+-- 'Id alone or with version or parameters is a parameter string; with salt a salt string; with output a hash string.'
 -- 01's kind: 1 for its parameter string, 2 for its salt string, 3 for its hash string. Free answer: 3 for an output without a salt, which no
 -- string has
 abbrev pub kindOf : OptionalText → OptionalText → ℕ

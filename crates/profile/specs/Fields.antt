@@ -24,7 +24,8 @@ use Rattle.profile.specs.declared.fields.NumberFields.{NumberFields}
 use Rattle.profile.specs.declared.fields.ByteString.{ByteString}
 use Rattle.profile.specs.declared.fields.ByteString.the-variants.{Keyid, Data, Salt, Output}
 
--- 01's fields: the number fields (id, version, m, t, p), and the four byte strings beside them
+-- 01's fields: the number fields (id, version, m, t, p), and the four byte strings beside them. 'Two sets of fields are the same when all nine
+-- agree': that is `≡` of this record
 pub record FieldSet : Type 0 where
   pub numbers : NumberFields
   pub keyid : List ℕ
@@ -50,8 +51,8 @@ numberReading r t = limitedReading (lowest r) (highest r) t
 abbrev pub isNumber : NumberRule → List ℕ → Bool
 isNumber r t = eqb (limitedNumber (numberReading r t)) 0
 
--- as written or, where it is left out, what stands for it. Free answer: 0 for a text that is no decimal in range, and its own number for one of a
--- parameter that the profile hasn't; rows 10 and 11 come before
+-- as written or, where it is left out, what stands for it. Free answer: 0 for a text that is no decimal in range; a number that is no parameter
+-- has itself as its range, so itself or 0. Rows 10 and 11 come before
 abbrev pub readNumber : NumberRule → OptionalText → ℕ
 readNumber r none = defaultOf r
 readNumber r (some t) = limitedValue (numberReading r t)
@@ -78,10 +79,12 @@ isDecodedSize r t = isSize r (length (decode t))
 abbrev pub isBytes : BytesRule → List ℕ → Bool
 isBytes r t = canonical t && isDecodedSize r t
 
+-- decoded; empty where it isn't there
 abbrev pub readBytes : OptionalText → List ℕ
 readBytes none = []
 readBytes (some t) = decode t
 
+-- 'An empty salt or output stands for one that isn't there'; keyid and data are 'omitted when empty'
 abbrev pub writeBytes : List ℕ → OptionalText
 writeBytes [] = none
 writeBytes (b ∷ bs) = some (encode (b ∷ bs))

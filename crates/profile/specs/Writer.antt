@@ -17,7 +17,7 @@ use Rattle.profile.specs.Fields.{FieldSet, fieldSet, writeNumber, writeB
 use Rattle.profile.specs.Reader.{parameterNames}
 use Rattle.profile.specs.declared.fields.NumberFields.{NumberFields}
 
--- empty, or of a permitted size
+-- empty, or of a permitted size. Since salt and output may be empty, 'all three kinds of string are permitted in every profile'
 abbrev pub bytesAllowed : BytesRule → List ℕ → Bool
 bytesAllowed r bs = empty bs || isSize r (length bs)
 
@@ -49,7 +49,7 @@ pub record Permitted (e : List Profile) (f : FieldSet) : Type 0 where
 
 -- ---- the writer's rows
 
--- the numbers: each in its range, then m at least 8p
+-- the numbers: each in its range, then m at least 8p. 'For pbkdf2 an m or p other than 0 is 11': the range of a constant is its own number
 abbrev pub rangeRows : Profile → NumberFields → List Row
 rangeRows r n =
     row 11 (not (inRange (r .m) (n .m)))
@@ -65,7 +65,7 @@ saltRows r salt output =
     ∷ row 16 (empty salt && not (empty output))
     ∷ []
 
--- keyid and data, then salt and output
+-- keyid and data, then salt and output; 'for pbkdf2 any data is 12'
 abbrev pub bytesRows : Profile → List ℕ → List ℕ → List ℕ → List ℕ → List Row
 bytesRows r keyid «data» salt output =
     row 12 (not (bytesAllowed (r .keyid) keyid))

@@ -164,7 +164,7 @@ pub fn read(s: &[u8]) -> Reading
 }
 
 // The algorithm version that a reader's answer means: the one written, or the one that the profile implies. Of a refusal it is 0, as its fields
-// are all-zero; an answer made by hand goes by its fields.
+// are all-zero. Free answer: one made by hand goes by its fields.
 pub fn algorithm_version_of(r: Reading) -> AlgorithmVersion
     ensures { λ v. ⌜ v ≡ algorithmVersionOf editionTwo r ⌝ }
 {

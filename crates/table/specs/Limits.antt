@@ -1,6 +1,6 @@
 -- 'A reader and a writer for five profiles: `argon2d`, `argon2i`, `argon2id`, `pbkdf2s2`, `pbkdf2s3`': the table of what each allows, a column
--- for each id, in the order of the ids' numbers. Such a table is an edition of the rules; document 01's is edition two, since the older text
--- that it replaces is to be the first.
+-- for each id, in the order of the ids' numbers. Such a table is an edition of the rules; document 01's is edition two, since document 001, the
+-- older text, is to be edition one.
 -- Assumes nothing.
 use Prim.Native.Nat.{ℕ, zero, suc, _*_}
 use mathlib.Core.Bool.{Bool, true, false, cond, _&&_}
@@ -18,7 +18,7 @@ use Rattle.table.specs.declared.limits.ShortDefaults.{ShortDefaults}
 use Rattle.table.specs.declared.version.Version.{Version}
 use Rattle.table.specs.declared.version.Version.the-variants.{Absent, Number}
 
--- 01's profile, a column of its table. A column says whether its id is known, so that ids keep their numbers in every edition; in document 01's
+-- 01's profile: what its table's column says, for one id. A column says whether its id is known, so that ids keep their numbers in every edition; in document 01's
 -- table every id is. `versions` are those that may be written; in every profile a version may also be absent. `implied` is the algorithm
 -- version that a string without a version means
 pub record Profile : Type 0 where
@@ -37,7 +37,7 @@ pub record Profile : Type 0 where
 
 -- ---- what a column says of a number
 
--- the ends of its range; both are the number itself where it is constant
+-- the ends of its range. Free answer: both are the number itself where it is constant
 abbrev pub lowest : NumberRule → ℕ
 lowest (Required low high) = low
 lowest (Defaulted low high default) = low
@@ -48,8 +48,8 @@ highest (Required low high) = high
 highest (Defaulted low high default) = high
 highest (Constant value) = value
 
--- in the range of its own rule. Of m this says nothing of the lanes: 1 to 7, which no p of 1 or more permits, are in its range, and m < 8p is
--- a condition of its own in row 11
+-- in the range of its own rule. Free answer: an m of 1 to 7 is in it, though no p of 1 or more permits one; m < 8p is a condition of its own in
+-- row 11
 abbrev pub inRange : NumberRule → ℕ → Bool
 inRange r n = within (lowest r) (highest r) n
 
@@ -83,7 +83,7 @@ isOmitted (Required low high) n = false
 isOmitted (Defaulted low high default) n = eqb n default
 isOmitted (Constant value) n = true
 
--- m < 8p, in row 11: fewer than eight kilobytes for each lane
+-- m < 8p, in row 11. Argon2 calls p its lanes and m its kilobytes of memory: fewer than eight for each lane
 abbrev pub memoryTooLittle : ℕ → ℕ → Bool
 memoryTooLittle m p = ltb m (8 * p)
 
@@ -160,7 +160,8 @@ defaultT = 20000
 abbrev pub pbkdf2Defaults : ShortDefaults
 pbkdf2Defaults = record { version = Absent; m = 0; t = defaultT; p = 0 }
 
--- 'm: 8p to 2^32−1': m by itself begins at 1, as in document 002, and that it is at least 8p is tested after the three numbers
+-- 01's column 'Argon2 (three ids)', for an id's name. 'm: 8p to 2^32−1': m by itself begins at 1, as in document 002, and that it is at least 8p
+-- is tested after the three numbers
 abbrev pub argon2 : List ℕ → Profile
 argon2 name =
     record {
@@ -178,6 +179,7 @@ argon2 name =
       defaults = argon2Defaults;
     }
 
+-- 01's column 'pbkdf2s2, pbkdf2s3', for an id's name
 abbrev pub pbkdf2 : List ℕ → Profile
 pbkdf2 name =
     record {

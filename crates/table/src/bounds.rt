@@ -11,7 +11,8 @@ ghost use Rattle.text.specs.Text.{has};
 ghost use Rattle.table.specs.Limits.{inRange, memoryTooLittle, isSize, versionAllowed};
 ghost use Rattle.table.specs.Columns.{listed};
 
-// Whether a number is in the range of its own rule. That m is at least 8p is `memory_too_little`.
+// Whether a number is in the range of its own rule. Free answer: an m of 1 to 7 is; that m is at least 8p is
+// `memory_too_little`.
 pub fn in_range(rule: NumberRule, n: u32) -> bool
     ensures { λ r. ⌜ r ≡ inRange rule n ⌝ }
 {
@@ -25,7 +26,7 @@ pub fn memory_too_little(m: u32, p: u32) -> bool
     m / 8 < p
 }
 
-// Whether a byte string that is there may have so many bytes; one that is forbidden may have none, not even 0.
+// Whether a byte string that is there may have so many bytes. Free answer: one that is forbidden may have none, not even 0.
 pub fn is_size(rule: BytesRule, size: Bytes) -> bool
     ensures { λ r. ⌜ r ≡ isSize rule (size .0) ⌝ }
 {
@@ -47,7 +48,8 @@ fn is_listed(versions: Versions, n: u32) -> bool
     }
 }
 
-// Whether a version may stand: absent, or one of those that may be written. Of the column of no profile absent is allowed too.
+// Whether a version may stand: absent, or one of those that may be written. Free answer: in the column of no profile absent is
+// allowed too.
 pub fn version_allowed(versions: Versions, version: Version) -> bool
     ensures { λ r. ⌜ r ≡ versionAllowed (listed versions) version ⌝ }
 {

@@ -112,7 +112,7 @@ fn index(id: u8) -> usize
     id as usize
 }
 
-// The column of an id by its number; of another number that of no profile.
+// The column of an id by its number. Free answer: of another number that of no profile.
 pub fn column_of(id: u8) -> Column
     ensures { λ r. ⌜ (profileIn r ≡ profileOf editionTwo id) × (r .name ≡ nameIndex id) ⌝ }
 {

@@ -36,7 +36,7 @@ fn position(names: &[u8], name: &[u8]) -> u8
     0
 }
 
-// The number of an id, counted from 1; 0 for an unknown one.
+// The number of an id, counted from 1. Free answer: 0 for an unknown one.
 pub fn id_number(name: &[u8]) -> u8
     ensures { λ r. ⌜ r ≡ idOf editionTwo (now (name .entry)) ⌝ }
 {

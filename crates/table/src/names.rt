@@ -21,7 +21,7 @@ fn wide(x: u8) -> usize
     x as usize
 }
 
-// The name at an index of the table; empty past the last.
+// The name at an index of the table. Free answer: empty past the last.
 pub fn name_at(names: &[u8], index: usize) -> &[u8]
     ensures { λ r. ⌜ now r ≡ nameIn (now (names .entry)) index ⌝ }
 {

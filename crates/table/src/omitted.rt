@@ -18,7 +18,7 @@ pub fn is_required(rule: NumberRule) -> bool
     }
 }
 
-// The number that stands for one that is left out; 0 for one that is required.
+// The number that stands for one that is left out. Free answer: 0 for one that is required.
 pub fn default_of(rule: NumberRule) -> u32
     ensures { λ r. ⌜ r ≡ defaultOf rule ⌝ }
 {
@@ -33,7 +33,7 @@ pub fn default_of(rule: NumberRule) -> u32
     }
 }
 
-// Whether a number is left out of the string: its default, or no parameter.
+// Whether a number is left out of the string: its default, or no parameter. Free answer: of one that is no parameter any number is.
 pub fn is_omitted(rule: NumberRule, n: u32) -> bool
     ensures { λ r. ⌜ r ≡ isOmitted rule n ⌝ }
 {

@@ -3,7 +3,7 @@ use crate::limits::NumberRule;
 ghost use mathlib.Core.Path.{_≡_};
 ghost use Rattle.table.specs.Limits.{lowest, highest};
 
-// The low end; the number itself where it is constant.
+// The low end. Free answer: the number itself where it is constant.
 pub fn lowest_of(rule: NumberRule) -> u32
     ensures { λ r. ⌜ r ≡ lowest rule ⌝ }
 {
@@ -18,7 +18,7 @@ pub fn lowest_of(rule: NumberRule) -> u32
     }
 }
 
-// The high end; the number itself where it is constant.
+// The high end. Free answer: the number itself where it is constant.
 pub fn highest_of(rule: NumberRule) -> u32
     ensures { λ r. ⌜ r ≡ highest rule ⌝ }
 {

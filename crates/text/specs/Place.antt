@@ -22,7 +22,8 @@ outcome number count buffer = record { number = number; count = count; buffer = 
 abbrev pub refused : ℕ → List ℕ → Outcome
 refused number buffer = outcome number 0 buffer
 
--- n bytes fit a buffer of so many bytes from the place on; so the place does not lie past its end
+-- n bytes fit a buffer of so many bytes from the place on; so the place does not lie past its end. 'A place equal to the buffer's length is no fault
+-- where nothing is to be written'
 abbrev pub hasRoom : ℕ → ℕ → ℕ → Bool
 hasRoom size at n = leb (at + n) size
 

@@ -4,7 +4,7 @@ ghost use mathlib.Core.List.{[]};
 ghost use lib.ListN.{getD};
 ghost use Rattle.text.specs.Text.{same, nextAt, parts};
 
-// The place of the first `byte` from `from` on; the end where there is none, and `from` itself past the end.
+// The place of the first `byte` from `from` on; the end where there is none. Free answer: `from` itself past the end.
 pub fn next_at(s: &[u8], from: usize, byte: u8) -> usize
     ensures { λ r. ⌜ r ≡ nextAt byte (now (s .entry)) from ⌝ }
 {

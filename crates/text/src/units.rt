@@ -10,7 +10,7 @@ pub struct Chars(pub usize);
 pub struct Bytes(pub usize);
 
 impl Chars {
-    // The sum of two lengths in characters; the largest usize where that is more.
+    // The sum of two lengths in characters. Free answer: the largest usize where that is more.
     pub fn plus(self, more: Chars) -> Chars
         ensures { λ r. ⌜ r .0 ≡ sumWithin (self .0) (more .0) ⌝ }
     {
