@@ -43,9 +43,10 @@ shortWriterNumbers = 8 ∷ 14 ∷ 15 ∷ 16 ∷ 17 ∷ []
 abbrev pub isShortWriterNumber : ℕ → Bool
 isShortWriterNumber n = has n shortWriterNumbers
 
--- 'Bad input gets a number from document 01's list and an all-zero record; an entry that hands back a part hands back an empty one; no byte of a
--- lent buffer changes': an all-zero record has no version; a refusal into a buffer counts 0. Of the helpers, `read_all` and the listing the
--- definitions that their contracts cite say it at once (`put`, `putAfter`, `decimalAnswer`, `refusedContents`, `NoRoom`)
+-- Demand 1: 'Bad input gets a number from document 01's list and an all-zero record; an entry that hands back a part hands back an empty one; no
+-- byte of a lent buffer changes.' In 01's words, 'every refusal gives an all-zero record, version absent, and changes no buffer'; a refusal into a
+-- buffer counts 0. Of the helpers, `read_all` and the listing the definitions that their contracts cite say it at once (`put`, `putAfter`,
+-- `decimalAnswer`, `refusedContents`, `NoRoom`)
 pub record Demand1 (e : List Profile) : Type 0 where
   pub read : (s : List ℕ) → reading e s .number ≢ 0
       → (isReaderNumber (reading e s .number) ≡ true) × (reading e s ≡ refusedReading (reading e s .number))
@@ -75,7 +76,8 @@ ruleSpelling e =
 abbrev pub WrittenAt : List Profile → FieldSet → List ℕ → List ℕ → ℕ → Type 0
 WrittenAt e f s buffer at = writing e f buffer at ≡ outcome 0 (length s) (over buffer at s)
 
--- by a call with at least 265 bytes of room; 'its room counts from its place'
+-- by a call with at least 265 bytes of room, as demand 3 has it; 'its room counts from its place'. By `EntriesAgree` a call with less room that
+-- answers 0 writes the same string
 pub record WrittenTo (e : List Profile) (f : FieldSet) (s : List ℕ) : Type 0 where
   pub buffer : List ℕ
   pub place : ℕ

@@ -29,7 +29,8 @@ abbrev pub itemValue : Option Item → OptionalText
 itemValue none = none
 itemValue (some i) = some (i .1)
 
--- the value of each name, as the items have them in order; and the items that are left, whose names are unknown, repeated or out of order
+-- the value of each name, as the items have them in order; and the items that are left, from the first whose name is unknown, repeated or out of
+-- order
 abbrev pub namedValues : List (List ℕ) → List Item → List OptionalText
 namedValues [] is = []
 namedValues (n ∷ ns) is = itemValue (headIf (named n) is) ∷ namedValues ns (tailIf (named n) is)

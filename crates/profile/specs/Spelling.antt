@@ -1,6 +1,6 @@
--- Demand 3, stated once over a spelling: 'two different accepted strings never carry the same fields; two different permitted sets of fields
--- are never written to the same string; a string is refused exactly when no permitted set of fields is written to it; the fields of an accepted
--- string are written back to exactly that string.'
+-- Demand 3, which document 01 names and does not repeat, stated once over a spelling: 'two different accepted strings never carry the same fields;
+-- two different permitted sets of fields are never written to the same string; a string is refused exactly when no permitted set of fields is
+-- written to it; the fields of an accepted string are written back to exactly that string.'
 -- Assumes nothing.
 use Prim.Native.Nat.{ℕ}
 use mathlib.Core.Path.{_≡_}

@@ -115,7 +115,8 @@ abbrev pub idOf : List Profile → List ℕ → ℕ
 idOf [] s = 0
 idOf (r ∷ rs) s = cond (isNamed s r) 1 (next (idOf rs s))
 
--- the column of a number that is no id's. Free answer: all but that it is not known, for which row 8 comes first
+-- the column of a number that is no id's: not known, and `implied` is 0, 01's answer for a refused string, whose id is 0. Free answer: all else,
+-- since row 8 comes first
 abbrev pub noProfile : Profile
 noProfile =
     record {
