@@ -1,7 +1,8 @@
 //! Times readers of PHC strings, in turn and on the same strings.
 //!
 //! A peer takes part where its cfg is set: `argon2` is libargon2, `password_hash` is RustCrypto's password-hash.
-//! The second table is of long strings, all refused: a ratio there that is past its limit ends the run non-zero.
+//! The second table is of long strings, all refused, the third of the directory spelling: a ratio there that is past its limit ends the run
+//! non-zero.
 
 #[allow(dead_code)]
 #[path = "../tests/library.rs"]
@@ -83,15 +84,18 @@ fn read_calls(s: &Text, calls: u64) -> u64 {
     })
 }
 
-fn read_all_once(s: &str, record: &mut [u8; PHC_RECORD_ALL], bytes: &mut [u8; PHC_BYTES]) -> bool {
+// Inlined, so that the entry is called by its name and not through a pointer.
+#[inline(always)]
+fn all_once(entry: ReadAllEntry, s: &str, record: &mut [u8; PHC_RECORD_ALL], bytes: &mut [u8; PHC_BYTES]) -> bool {
     // SAFETY: the slices are whole and apart.
-    unsafe { phc_read_all(s.as_ptr(), s.len(), record.as_mut_ptr(), record.len(), bytes.as_mut_ptr(), bytes.len()) == 0 }
+    unsafe { entry(s.as_ptr(), s.len(), record.as_mut_ptr(), record.len(), bytes.as_mut_ptr(), bytes.len()) == 0 }
 }
 
-fn read_all_calls(s: &Text, calls: u64) -> u64 {
+#[inline(always)]
+fn all_calls(entry: ReadAllEntry, s: &Text, calls: u64) -> u64 {
     let (mut record, mut bytes) = ([0; PHC_RECORD_ALL], [0; PHC_BYTES]);
     repeat(calls, || {
-        let accepted = read_all_once(black_box(s.text), &mut record, &mut bytes);
+        let accepted = all_once(entry, black_box(s.text), &mut record, &mut bytes);
         black_box((&record, &bytes));
         accepted
     })
@@ -109,9 +113,9 @@ fn salt_calls(s: &Text, calls: u64) -> u64 {
     })
 }
 
-fn read_all_fields(s: &Text) -> Option<Fields> {
+fn all_fields(entry: ReadAllEntry, s: &Text) -> Option<Fields> {
     let (mut record, mut bytes) = ([0; PHC_RECORD_ALL], [0; PHC_BYTES]);
-    if !read_all_once(s.text, &mut record, &mut bytes) {
+    if !all_once(entry, s.text, &mut record, &mut bytes) {
         return None;
     }
     let mut rest = &bytes[..];
@@ -296,7 +300,18 @@ mod rustcrypto {
 // The run.
 
 const READ: Reader = Reader { name: "phc_read", calls: read_calls, fields: None, peer: false };
-const READ_ALL: Reader = Reader { name: "phc_read_all", calls: read_all_calls, fields: Some(read_all_fields), peer: false };
+const READ_ALL: Reader = Reader {
+    name: "phc_read_all",
+    calls: |s, calls| all_calls(phc_read_all, s, calls),
+    fields: Some(|s| all_fields(phc_read_all, s)),
+    peer: false,
+};
+const DIRECTORY: Reader = Reader {
+    name: "phc_directory_read_all",
+    calls: |s, calls| all_calls(phc_directory_read_all, s, calls),
+    fields: Some(|s| all_fields(phc_directory_read_all, s)),
+    peer: false,
+};
 const PLAIN: Reader = Reader { name: "plain reader", calls: salt_calls, fields: None, peer: false };
 
 fn readers() -> Vec<Reader> {
@@ -349,13 +364,17 @@ fn quartiles(samples: &[f64]) -> [f64; 3] {
     [1, 2, 3].map(|quarter| sorted[sorted.len() * quarter / 4])
 }
 
+fn table_head() {
+    println!();
+    println!("| string | reader | ns a call, median | quartiles | ratio |");
+    println!("|---|---|---|---|---|");
+}
+
 fn compare_readers() {
     let readers = readers();
     println!("{ROUNDS} rounds, each of {CALLS} calls of every reader in turn. Buffers are not cleared before a call.");
     println!("Ratio: to the fastest peer that also decodes; of the ratios in each round, the median.");
-    println!();
-    println!("| string | reader | ns a call, median | quartiles | ratio |");
-    println!("|---|---|---|---|---|");
+    table_head();
     for (name, text, good) in STRINGS {
         let s = Text { text, terminated: CString::new(text).unwrap() };
         let taking_part: Vec<bool> = readers.iter().map(|reader| takes_part(reader, &s, good)).collect();
@@ -423,11 +442,14 @@ fn calls_in_sample(reader: &Reader, s: &Text) -> u64 {
     calls
 }
 
-/// Times readers on refused strings, in turn, and shows their ratios to the first. The rows past the limit are given back.
-fn compare_long(name: &str, timed: &[(&Reader, &str)], most: f64) -> Vec<String> {
-    // No reader here takes the terminated string.
-    let timed: Vec<(&Reader, Text)> =
-        timed.iter().map(|(reader, text)| (*reader, Text { text, terminated: CString::default() })).collect();
+/// For the readers that don't take the terminated string.
+fn unterminated(text: &str) -> Text<'_> {
+    Text { text, terminated: CString::default() }
+}
+
+/// Times readers in turn, and shows their ratios to the first. The rows past the limit are given back.
+fn compare_to_first(name: &str, timed: &[(&Reader, &str)], good: bool, most: f64) -> Vec<String> {
+    let timed: Vec<(&Reader, Text)> = timed.iter().map(|(reader, text)| (*reader, unterminated(text))).collect();
     let calls: Vec<u64> = timed.iter().map(|(reader, s)| calls_in_sample(reader, s)).collect();
     let mut samples = vec![Vec::new(); timed.len()];
     for round in 0..LONG_ROUNDS {
@@ -439,7 +461,7 @@ fn compare_long(name: &str, timed: &[(&Reader, &str)], most: f64) -> Vec<String>
     }
     let mut past = Vec::new();
     for ((reader, s), times) in timed.iter().zip(&samples) {
-        assert_eq!((reader.calls)(s, 1), 0, "{} accepts {name}", reader.name);
+        assert_eq!((reader.calls)(s, 1) == 1, good, "{} on {name}", reader.name);
         let [low, median, high] = quartiles(times);
         let ratios: Vec<f64> = times.iter().zip(&samples[0]).map(|(time, first)| time / first).collect();
         let ratio = quartiles(&ratios)[1];
@@ -452,12 +474,10 @@ fn compare_long(name: &str, timed: &[(&Reader, &str)], most: f64) -> Vec<String>
     past
 }
 
-fn refuse_long() {
+fn refuse_long() -> Vec<String> {
     println!("Long strings, all refused: {LONG_ROUNDS} rounds, each of {} us or more of calls in turn.", SAMPLE.as_micros());
     println!("Ratio: at {WHOLE} bytes to the plain reader, at most {MOST_OF_PLAIN}; of {FAR_PAST} to {PAST}, at most {MOST_OF_PAST}.");
-    println!();
-    println!("| string | reader | ns a call, median | quartiles | ratio |");
-    println!("|---|---|---|---|---|");
+    table_head();
     let items = vec![["n".repeat(32), "0".repeat(128)].join("="); 16].join(",");
     let whole = ["", &"i".repeat(32), "v=4294967295", &items, &"s".repeat(128), &"A".repeat(128)].join("$");
     let strings = [
@@ -470,19 +490,53 @@ fn refuse_long() {
     let mut past = Vec::new();
     for (name, text, number) in &strings {
         assert_eq!((text.len(), reference::read(text.as_bytes()).err()), (WHOLE, Some(*number)), "{name}");
-        past.extend(compare_long(name, &[(&PLAIN, text), (&READ, text), (&READ_ALL, text)], MOST_OF_PLAIN));
+        past.extend(compare_to_first(name, &[(&PLAIN, text), (&READ, text), (&READ_ALL, text)], false, MOST_OF_PLAIN));
     }
     for (name, beginning, filler) in [("id of letters", "$", b'a'), ("version of zeros", "$argon2id$v=", b'0')] {
         let text = filled(beginning, filler, FAR_PAST);
         for reader in [&READ, &READ_ALL] {
-            past.extend(compare_long(name, &[(reader, &text[..PAST]), (reader, &text)], MOST_OF_PAST));
+            past.extend(compare_to_first(name, &[(reader, &text[..PAST]), (reader, &text)], false, MOST_OF_PAST));
         }
     }
-    assert!(past.is_empty(), "ratios past their limit:\n{}", past.join("\n"));
+    past
+}
+
+// The directory spelling.
+
+/// Of the time for the accepted string.
+const MOST_OF_STRING: f64 = 1.5;
+
+/// Names, what stands after the prefix, and whether it is accepted.
+fn braced_texts() -> [(&'static str, String, bool); 4] {
+    let (t, keyid, salt, output) = ("t=4294967295", "keyid=AAAAAAAAAAA", "A".repeat(43), "A".repeat(86));
+    [
+        ("short pbkdf2", "t=4096$AAECAw$AAECAwQFBgcICQoL".to_string(), true),
+        ("004's defaults", "gZiV/M1gPc22ElAH/Jh1Hw$CWOrkoo7oJBQ/iyh7uJ0LO2aLEfrHwTWllSAxT0zRno".to_string(), true),
+        ("longest of pbkdf2", format!("{t},{keyid}${salt}${output}"), true),
+        ("t of zeros", filled("t=", b'0', WHOLE - "{pbkdf2s3}".len()), false),
+    ]
+}
+
+fn read_braced() -> Vec<String> {
+    println!("The directory spelling beside the string: {LONG_ROUNDS} rounds, each of {} us or more of calls in turn.", SAMPLE.as_micros());
+    println!("Ratio: to the string, at most {MOST_OF_STRING} where both are accepted.");
+    table_head();
+    let mut past = Vec::new();
+    for (name, rest, good) in braced_texts() {
+        let [string, text] = [format!("$pbkdf2s3${rest}"), format!("{{pbkdf2s3}}{rest}")];
+        let fields = all_fields(phc_directory_read_all, &unterminated(&text));
+        assert_eq!(fields, expected(&unterminated(&string)), "{} on {text}", DIRECTORY.name);
+        let most = if good { MOST_OF_STRING } else { f64::INFINITY };
+        past.extend(compare_to_first(name, &[(&READ_ALL, &string), (&DIRECTORY, &text)], good, most));
+    }
+    past
 }
 
 fn main() {
     compare_readers();
     println!();
-    refuse_long();
+    let mut past = refuse_long();
+    println!();
+    past.extend(read_braced());
+    assert!(past.is_empty(), "ratios past their limit:\n{}", past.join("\n"));
 }

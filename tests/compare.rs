@@ -9,7 +9,8 @@ mod mutations;
 mod reference;
 
 use chance::Rng;
-use fields::{any_good_fields, good_fields, highest_fields, numbers, push_to_limit, spell, Arguments, ID_NUMBERS, VERSIONS};
+use fields::{any_good_fields, braced, directory_fields, good_fields, highest_fields, numbers, push_to_limit, spell};
+use fields::{Arguments, ID_NUMBERS, VERSIONS};
 use lent::Lent;
 use library::*;
 use long::{beginnings, fillers, longer_than_profiles, longest_of_grammar, stretched, GRAMMAR_ROOM, LENGTHS, LONGEST};
@@ -23,7 +24,7 @@ use std::process::exit;
 /// The strings that the program `records` runs, a line each.
 const RECORDS: &[u8] = include_bytes!("../crates/records/stdin");
 
-const KNOWN: [(&str, u64); 16] = [
+const KNOWN: [(&str, u8); 16] = [
     ("$argon2i$m=120,t=5000,p=2$/LtFjH5rVL8", 0),
     ("$argon2i$m=120,t=5000,p=2,keyid=Hj5+dsK0ZQA", 0),
     ("$argon2j$m=120,t=5000,p=2", 8),
@@ -42,26 +43,123 @@ const KNOWN: [(&str, u64); 16] = [
     ("$pbkdf2s2$", 5),
 ];
 
+const KNOWN_BRACED: [(&str, u8); 27] = [
+    ("{pbkdf2s2}t=100", 0),
+    ("{pbkdf2s3}AAAAAA", 0),
+    ("{pbkdf2s3}keyid=Hj5+dsK0ZQA$AAAAAA$AAAAAAAAAAAAAAAA", 0),
+    ("", 24),
+    ("{", 24),
+    ("{pbkdf2s2}", 24),
+    ("{pbkdf2s3}", 24),
+    ("{pbkdf2s2$t=100", 24),
+    ("$pbkdf2s2}t=100", 24),
+    ("$pbkdf2s2$t=100", 24),
+    ("{pbkdf2s4}t=100", 24),
+    ("{PBKDF2S2}t=100", 24),
+    ("{argon2id}m=8,t=1,p=1", 24),
+    ("{pbkdf2s2}v=", 3),
+    ("{pbkdf2s2}t=", 4),
+    ("{pbkdf2s2}$", 5),
+    ("{pbkdf2s2}$x", 5),
+    ("{pbkdf2s2}}t=100", 4),
+    ("{pbkdf2s2}AAAAAA$A", 6),
+    ("{pbkdf2s2}AAAAAA$AAAA$", 7),
+    ("{pbkdf2s2}v=19", 9),
+    ("{pbkdf2s2}m=8,t=100", 10),
+    ("{pbkdf2s2}t=99", 11),
+    ("{pbkdf2s2}keyid=Hj5+dsK0ZR", 12),
+    ("{pbkdf2s2}t=20000", 13),
+    ("{pbkdf2s2}AAAA", 14),
+    ("{pbkdf2s2}AAAAAA$AAAA", 15),
+];
+
+/// Of pbkdf2s2: the fields whose string is the id alone.
+const ID_ALONE: Fields =
+    Fields { id: 4, version: None, m: 0, t: 20_000, p: 0, keyid: vec![], data: vec![], salt: vec![], output: vec![] };
+
+/// Fields, and the directory writer's number.
+fn known_fields() -> [(Fields, u8); 12] {
+    let id = |id| Fields { id, ..ID_ALONE };
+    [
+        (Fields { t: 100, ..ID_ALONE }, 0),
+        (Fields { id: 3, version: Some(19), m: 8, t: 1, p: 1, ..ID_ALONE }, 24),
+        (id(0), 24),
+        (id(6), 24),
+        (Fields { version: Some(19), ..ID_ALONE }, 9),
+        (Fields { m: 1, ..ID_ALONE }, 11),
+        (Fields { data: vec![0], ..ID_ALONE }, 12),
+        (Fields { salt: vec![0; 3], ..ID_ALONE }, 14),
+        (Fields { salt: vec![0; 4], output: vec![0; 11], ..ID_ALONE }, 15),
+        (Fields { output: vec![0; 12], ..ID_ALONE }, 16),
+        (id(4), 24),
+        (id(5), 24),
+    ]
+}
+
+// The spellings.
+
+/// A spelling of the fields: the library's reader and writer, and the rules for both.
+struct Spelling {
+    reader: &'static str,
+    read_all: ReadAllEntry,
+    read: fn(&[u8]) -> Result<(u8, Fields), u8>,
+    writer: &'static str,
+    write_entry: WriteEntry,
+    write: fn(&Fields) -> Result<Vec<u8>, u8>,
+    /// The longest text.
+    longest: usize,
+    /// Texts and their numbers.
+    known: &'static [(&'static str, u8)],
+}
+
+static STRING: Spelling = Spelling {
+    reader: "phc_read_all",
+    read_all: phc_read_all,
+    read: reference::read,
+    writer: "phc_write",
+    write_entry: phc_write,
+    write: reference::write,
+    longest: PHC_ROOM,
+    known: &KNOWN,
+};
+
+static DIRECTORY: Spelling = Spelling {
+    reader: "phc_directory_read_all",
+    read_all: phc_directory_read_all,
+    read: reference::directory_read,
+    writer: "phc_directory_write",
+    write_entry: phc_directory_write,
+    write: reference::directory_write,
+    longest: 171,
+    known: &KNOWN_BRACED,
+};
+
+static SPELLINGS: [&Spelling; 2] = [&STRING, &DIRECTORY];
+
 // Comparison.
+
+/// What an entry answered.
+#[derive(Default)]
+struct Seen {
+    /// How often each number, 0 for acceptance.
+    numbers: [u64; 25],
+    /// The longest text accepted or written.
+    longest: usize,
+}
 
 struct Run {
     seed: u64,
     rng: Rng,
     cases: u64,
-    read: u64,
     good: u64,
-    written: u64,
-    longest_written: usize,
+    good_braced: u64,
     longest_read: usize,
-    /// Strings longer than any of the grammar.
+    /// Texts longer than any of the grammar.
     past_grammar: u64,
-    /// Answers seen, by number.
-    reader_numbers: [u64; 18],
-    /// Those to strings longer than any of the profiles.
-    past_profiles: [u64; 18],
-    read_all_numbers: [u64; 18],
-    writer_numbers: [u64; 18],
-    short_numbers: [u64; 18],
+    /// By the entry's name.
+    seen: HashMap<&'static str, Seen>,
+    /// The numbers of texts longer than any of the spelling, by its reader.
+    past_longest: HashMap<&'static str, [u64; 25]>,
     /// Algorithm versions seen.
     versions: HashMap<u32, u64>,
 }
@@ -77,17 +175,30 @@ impl Run {
         }
     }
 
+    /// Counts an answer; the length is the text's that was read or written.
+    fn count(&mut self, entry: &'static str, number: u8, len: usize) {
+        let seen = self.seen.entry(entry).or_default();
+        seen.numbers[usize::from(number)] += 1;
+        if number == 0 {
+            seen.longest = seen.longest.max(len);
+        }
+    }
+
+    fn count_written(&mut self, entry: &'static str, written: &Result<Vec<u8>, u8>) {
+        self.count(entry, *written.as_ref().err().unwrap_or(&0), written.as_ref().map_or(0, Vec::len));
+    }
+
     /// Calls an entry that takes a string and a buffer, and compares the answer and each byte of the lent memory.
-    fn string_entry(&mut self, name: &str, entry: StringEntry, s: &[u8], room: usize, expected: Result<Vec<u8>, u8>, scale: u64) {
+    fn string_entry(&mut self, name: &'static str, entry: StringEntry, s: &[u8], room: usize, expected: Result<Vec<u8>, u8>, scale: u64) {
         let mut string = Lent::new(&mut self.rng, s);
         let mut buffer = Lent::room(&mut self.rng, room);
         let (string_after, mut buffer_after) = (string.memory.clone(), buffer.memory.clone());
-        let answer = match expected.and_then(|bytes| reference::fit(bytes, room)) {
+        let (number, answer) = match expected.and_then(|bytes| reference::fit(bytes, room)) {
             Ok(bytes) => {
                 buffer_after = buffer.with(&bytes);
-                scale * bytes.len() as u64
+                (0, scale * bytes.len() as u64)
             }
-            Err(number) => u64::from(number),
+            Err(number) => (number, u64::from(number)),
         };
         // SAFETY: both slices are whole and apart; NULL goes with the length 0 only.
         let given = unsafe { entry(string.ptr(), string.len, buffer.ptr(), buffer.len) };
@@ -95,10 +206,18 @@ impl Run {
         self.same(name, &input, &given, &answer);
         self.same(&format!("{name}'s buffer and its guards"), &input, &buffer.memory, &buffer_after);
         self.same(&format!("{name}'s string and its guards"), &input, &string.memory, &string_after);
+        self.count(name, number, s.len());
     }
 
-    /// The same for the one call that takes a record and a buffer.
-    fn read_all_entry(&mut self, s: &[u8], record_room: usize, buffer_room: usize, expected: &Result<(u8, Fields), u8>) {
+    /// The same for a call that takes a record and a buffer.
+    fn read_all_entry(
+        &mut self,
+        spelling: &Spelling,
+        s: &[u8],
+        record_room: usize,
+        buffer_room: usize,
+        expected: &Result<(u8, Fields), u8>,
+    ) {
         let mut string = Lent::new(&mut self.rng, s);
         let (mut record, mut buffer) = (Lent::room(&mut self.rng, record_room), Lent::room(&mut self.rng, buffer_room));
         let string_after = string.memory.clone();
@@ -110,17 +229,18 @@ impl Run {
             Ok((fields, bytes)) => (0, record.with(&fields), buffer.with(&bytes)),
             Err(number) => (number, record.memory.clone(), buffer.memory.clone()),
         };
+        let (name, entry) = (spelling.reader, spelling.read_all);
         // SAFETY: the slices are whole and apart; NULL goes with the length 0 only.
-        let given = unsafe { phc_read_all(string.ptr(), string.len, record.ptr(), record.len, buffer.ptr(), buffer.len) };
+        let given = unsafe { entry(string.ptr(), string.len, record.ptr(), record.len, buffer.ptr(), buffer.len) };
         let input = || {
             let rooms = format!("room {record_room} for the record and {buffer_room} for the bytes");
             format!("\"{}\" of {} bytes with {rooms}", s.escape_ascii(), s.len())
         };
-        self.same("phc_read_all", &input, &given, &u64::from(answer));
-        self.same("phc_read_all's record and its guards", &input, &record.memory, &record_after);
-        self.same("phc_read_all's buffer and its guards", &input, &buffer.memory, &buffer_after);
-        self.same("phc_read_all's string and its guards", &input, &string.memory, &string_after);
-        self.read_all_numbers[usize::from(answer)] += 1;
+        self.same(name, &input, &given, &u64::from(answer));
+        self.same(&format!("{name}'s record and its guards"), &input, &record.memory, &record_after);
+        self.same(&format!("{name}'s buffer and its guards"), &input, &buffer.memory, &buffer_after);
+        self.same(&format!("{name}'s string and its guards"), &input, &string.memory, &string_after);
+        self.count(name, answer, s.len());
     }
 
     fn version_entry(&mut self, s: &[u8]) {
@@ -132,22 +252,21 @@ impl Run {
         let input = || format!("\"{}\" of {} bytes", s.escape_ascii(), s.len());
         self.same("phc_algorithm_version", &input, &given, &expected.map_or_else(u64::from, |v| 100 * u64::from(v)));
         self.same("phc_algorithm_version's string and its guards", &input, &string.memory, &string_after);
+        self.count("phc_algorithm_version", expected.err().unwrap_or(0), s.len());
         if let Ok(version) = expected {
             *self.versions.entry(version).or_default() += 1;
         }
     }
 
-    /// The reader, the algorithm version, the four byte strings and all in one call, with rooms of the caller's choice from what is needed.
+    /// The reader, the algorithm version, the four byte strings and all in one call of either spelling, with rooms of the caller's
+    /// choice from what is needed.
     fn compare_rooms(&mut self, s: &[u8], choose: &mut dyn FnMut(&mut Rng, usize) -> usize) {
-        let expected = reference::read(s);
+        let readings = SPELLINGS.map(|spelling| (spelling.read)(s));
+        let expected = &readings[0];
         let record = expected.as_ref().map(|(kind, f)| record_bytes(*kind, f));
         let room = choose(&mut self.rng, PHC_RECORD);
         self.string_entry("phc_read", phc_read, s, room, record.map_err(|n| *n), 0);
         self.version_entry(s);
-
-        let needed = expected.as_ref().map_or(0, |(_, f)| byte_strings(f).concat().len());
-        let (record_room, buffer_room) = (choose(&mut self.rng, PHC_RECORD_ALL), choose(&mut self.rng, needed));
-        self.read_all_entry(s, record_room, buffer_room, &expected);
 
         let parts: [(&str, StringEntry, fn(&Fields) -> &Vec<u8>); 4] = [
             ("phc_keyid", phc_keyid, |f| &f.keyid),
@@ -164,24 +283,36 @@ impl Run {
         self.cases += 1;
         self.longest_read = self.longest_read.max(s.len());
         self.past_grammar += u64::from(s.len() > GRAMMAR_ROOM);
-        let number = usize::from(*expected.as_ref().err().unwrap_or(&0));
-        self.reader_numbers[number] += 1;
-        self.past_profiles[number] += u64::from(s.len() > PHC_ROOM);
-        if let Ok((_, fields)) = expected {
-            self.read += 1;
-            let again = reference::write(&fields);
-            self.same("the reference's own way back", &|| s.escape_ascii().to_string(), &Ok(s.to_vec()), &again);
-            self.write_entry(&Arguments::of(&fields), s.len()).ok();
+
+        for (spelling, expected) in SPELLINGS.into_iter().zip(readings) {
+            let needed = bytes_needed(&expected);
+            let (record_room, buffer_room) = (choose(&mut self.rng, PHC_RECORD_ALL), choose(&mut self.rng, needed));
+            self.read_all_entry(spelling, s, record_room, buffer_room, &expected);
+            match expected {
+                Ok((_, fields)) => {
+                    let again = (spelling.write)(&fields);
+                    self.same("the reference's own way back", &|| s.escape_ascii().to_string(), &Ok(s.to_vec()), &again);
+                    self.write_entry(spelling, &Arguments::of(&fields), s.len()).ok();
+                }
+                Err(number) if s.len() > spelling.longest => {
+                    self.past_longest.entry(spelling.reader).or_default()[usize::from(number)] += 1;
+                }
+                Err(_) => {}
+            }
         }
     }
 
+    /// A string, also with braces in place of its first two `$`.
     fn compare_string(&mut self, s: &[u8]) {
         self.compare_rooms(s, &mut some_room);
+        if s.starts_with(b"$") {
+            self.compare_rooms(&braced(s), &mut some_room);
+        }
     }
 
-    /// Calls the writer and compares; the written string, if any.
-    fn write_entry(&mut self, arguments: &Arguments, room: usize) -> Result<Vec<u8>, u8> {
-        let expected = reference::write(&arguments.meaning()).and_then(|bytes| reference::fit(bytes, room));
+    /// Calls a writer and compares; the written text, if any.
+    fn write_entry(&mut self, spelling: &Spelling, arguments: &Arguments, room: usize) -> Result<Vec<u8>, u8> {
+        let expected = (spelling.write)(&arguments.meaning()).and_then(|bytes| reference::fit(bytes, room));
         let f = &arguments.fields;
         let mut parts = [&f.keyid, &f.data, &f.salt, &f.output].map(|bytes| Lent::new(&mut self.rng, bytes));
         let parts_after = parts.each_ref().map(|part| part.memory.clone());
@@ -191,18 +322,20 @@ impl Run {
             Err(number) => (u64::from(*number), buffer.memory.clone()),
         };
         let [keyid, data, salt, output] = &mut parts;
+        let (name, entry) = (spelling.writer, spelling.write_entry);
         // SAFETY: the slices are whole and apart; NULL goes with the length 0 only.
         let given = unsafe {
-            phc_write(
+            entry(
                 f.id, arguments.has_version, arguments.version, f.m, f.t, f.p,
                 keyid.ptr(), keyid.len, data.ptr(), data.len, salt.ptr(), salt.len, output.ptr(), output.len,
                 buffer.ptr(), buffer.len,
             )
         };
         let input = || format!("{arguments:?} with room {room}");
-        self.same("phc_write", &input, &given, &answer);
-        self.same("phc_write's buffer and its guards", &input, &buffer.memory, &buffer_after);
-        self.same("phc_write's byte strings and their guards", &input, &parts.map(|part| part.memory), &parts_after);
+        self.same(name, &input, &given, &answer);
+        self.same(&format!("{name}'s buffer and its guards"), &input, &buffer.memory, &buffer_after);
+        self.same(&format!("{name}'s byte strings and their guards"), &input, &parts.map(|part| part.memory), &parts_after);
+        self.count_written(name, &expected);
         expected
     }
 
@@ -225,25 +358,23 @@ impl Run {
         self.same("phc_write_short", &input, &given, &answer);
         self.same("phc_write_short's buffer and its guards", &input, &buffer.memory, &buffer_after);
         self.same("phc_write_short's byte strings and their guards", &input, &parts.map(|part| part.memory), &parts_after);
-        self.short_numbers[usize::from(expected.err().unwrap_or(0))] += 1;
+        self.count_written("phc_write_short", &expected);
     }
 
     fn compare_fields(&mut self, arguments: &Arguments) {
-        let needed = reference::write(&arguments.meaning()).map_or(0, |s| s.len());
-        let room = if self.rng.once_in(4) { PHC_ROOM } else { some_room(&mut self.rng, needed) };
-        let answer = self.write_entry(arguments, room);
+        for spelling in SPELLINGS {
+            let needed = (spelling.write)(&arguments.meaning()).map_or(0, |s| s.len());
+            let room = if self.rng.once_in(4) { PHC_ROOM } else { some_room(&mut self.rng, needed) };
+            if let Ok(s) = self.write_entry(spelling, arguments, room) {
+                let fields = (spelling.read)(&s).map(|(_, fields)| fields);
+                self.same("the reference's own way forth", &|| format!("{arguments:?}"), &Ok(arguments.meaning()), &fields);
+            }
+        }
         let f = &arguments.fields;
         let needed = reference::write_short(f.id, &f.salt, &f.output).map_or(0, |s| s.len());
         let room = some_room(&mut self.rng, needed);
         self.short_entry(f.id, &f.salt, &f.output, room);
         self.cases += 1;
-        self.writer_numbers[usize::from(*answer.as_ref().err().unwrap_or(&0))] += 1;
-        if let Ok(s) = answer {
-            self.written += 1;
-            self.longest_written = self.longest_written.max(s.len());
-            let fields = reference::read(&s).map(|(_, fields)| fields);
-            self.same("the reference's own way forth", &|| format!("{arguments:?}"), &Ok(arguments.meaning()), &fields);
-        }
     }
 }
 
@@ -258,6 +389,11 @@ fn ends(text: String) -> String {
 
 fn byte_strings(f: &Fields) -> [&[u8]; 4] {
     [&f.keyid, &f.data, &f.salt, &f.output]
+}
+
+/// The room for all byte strings of what a reader gives.
+fn bytes_needed(reading: &Result<(u8, Fields), u8>) -> usize {
+    reading.as_ref().map_or(0, |(_, f)| byte_strings(f).concat().len())
 }
 
 /// The record of phc_read.
@@ -344,8 +480,9 @@ fn generated(run: &mut Run) {
         }
     }
     // Some fields together, for the order of the rows.
-    for round in 0..60_000 {
-        let mut a = Arguments::of(&any_good_fields(&mut run.rng));
+    for round in 0..120_000 {
+        let fields = if round < 60_000 { any_good_fields(&mut run.rng) } else { directory_fields(&mut run.rng) };
+        let mut a = Arguments::of(&fields);
         for _ in 0..round % 4 {
             push_to_limit(&mut run.rng, &mut a);
         }
@@ -392,25 +529,31 @@ fn grammar_limits(run: &mut Run) {
         }
         run.compare_string(&s);
     }
-    // The whole at its limit, one short of it and one past it.
+    // The whole at its limit, or all but the id; one short of it and one past it.
     let item = [vec![b'n'; 32], vec![b'0'; 128]].join(&b'=');
-    let whole = [&b""[..], &[b'i'; 32], b"v=4294967295", &vec![item; 16].join(&b','), &[b's'; 128], &[b'A'; 128]].join(&b'$');
-    run.compare_string(&whole);
-    run.compare_string(&whole[..whole.len() - 1]);
-    for place in 0..whole.len() {
-        let mut s = whole.clone();
-        s.insert(place, whole[place]);
-        run.compare_string(&s);
+    for id in [&[b'i'; 32][..], b"pbkdf2s2"] {
+        let whole = [&b""[..], id, b"v=4294967295", &vec![item.clone(); 16].join(&b','), &[b's'; 128], &[b'A'; 128]].join(&b'$');
+        run.compare_string(&whole);
+        run.compare_string(&whole[..whole.len() - 1]);
+        for place in 0..whole.len() {
+            let mut s = whole.clone();
+            s.insert(place, whole[place]);
+            run.compare_string(&s);
+        }
     }
 }
 
 // Mutations.
 
 fn mutations(run: &mut Run) {
-    for _ in 0..150_000 {
+    for _ in 0..250_000 {
         let one = |rng: &mut Rng| {
             if rng.once_in(8) {
-                return rng.pick(&KNOWN).0.as_bytes().to_vec();
+                let known = rng.pick(&SPELLINGS).known;
+                return rng.pick(known).0.as_bytes().to_vec();
+            }
+            if rng.once_in(2) {
+                return braced(&reference::write(&directory_fields(rng)).unwrap());
             }
             reference::write(&any_good_fields(rng)).unwrap()
         };
@@ -468,7 +611,7 @@ fn long_strings(run: &mut Run) {
 
 const GOOD: u64 = 1_000_000;
 
-/// Every one is accepted, and carries the fields that it was written from.
+/// Every one is accepted, also in the directory spelling if it has one, and carries the fields that it was written from.
 fn good_strings(run: &mut Run) {
     let mut shapes: HashMap<_, u64> = HashMap::new();
     let mut sizes = HashSet::new();
@@ -490,8 +633,13 @@ fn good_strings(run: &mut Run) {
         sizes.extend(sizes_of(&fields));
 
         run.string_entry("phc_read", phc_read, &s, PHC_RECORD, Ok(record_bytes(kind, &fields)), 0);
-        run.read_all_entry(&s, record_room, buffer_room, &Ok((kind, fields)));
+        let expected = Ok((kind, fields.clone()));
+        run.read_all_entry(&STRING, &s, record_room, buffer_room, &expected);
         run.good += 1;
+        if let Ok(t) = reference::directory_write(&fields) {
+            run.read_all_entry(&DIRECTORY, &t, record_room, buffer_room, &expected);
+            run.good_braced += 1;
+        }
     }
 
     // Versions, keyid, data and kinds of the three ids of Argon2; t, keyid and kinds of the two of pbkdf2.
@@ -532,19 +680,19 @@ fn sizes_of(f: &Fields) -> [(u8, &'static str, usize); 7] {
 
 // Buffers.
 
-/// Each of the two buffers of phc_read_all at every size, beside some of the other's.
-fn two_buffers(run: &mut Run, s: &[u8]) {
-    let expected = reference::read(s);
-    let needed = expected.as_ref().map_or(0, |(_, f)| byte_strings(f).concat().len());
+/// Record and buffer each at every size, beside some of the other's.
+fn two_buffers(run: &mut Run, spelling: &Spelling, s: &[u8]) {
+    let expected = (spelling.read)(s);
+    let needed = bytes_needed(&expected);
     for record_room in 0..PHC_RECORD_ALL + 8 {
         for buffer_room in [0, needed.saturating_sub(1), needed, needed + 1, PHC_BYTES] {
-            run.read_all_entry(s, record_room, buffer_room, &expected);
+            run.read_all_entry(spelling, s, record_room, buffer_room, &expected);
             run.cases += 1;
         }
     }
     for buffer_room in 0..needed + 20 {
         for record_room in [0, PHC_RECORD, PHC_RECORD_ALL - 1, PHC_RECORD_ALL, PHC_RECORD_ALL + 1] {
-            run.read_all_entry(s, record_room, buffer_room, &expected);
+            run.read_all_entry(spelling, s, record_room, buffer_room, &expected);
             run.cases += 1;
         }
     }
@@ -555,43 +703,103 @@ fn buffers(run: &mut Run) {
         let fields = good_fields(&mut run.rng, 1 + round % 5);
         let s = reference::write(&fields).unwrap();
         for room in 0..s.len() + 20 {
-            run.write_entry(&Arguments::of(&fields), room).ok();
+            for spelling in SPELLINGS {
+                run.write_entry(spelling, &Arguments::of(&fields), room).ok();
+            }
             run.short_entry(fields.id, &fields.salt, &fields.output, room);
             run.cases += 1;
         }
-        for room in 0..84 {
-            run.compare_rooms(&s, &mut |_, _| room);
+        for (spelling, text) in [(&STRING, s.clone()), (&DIRECTORY, braced(&s))] {
+            for room in 0..84 {
+                run.compare_rooms(&text, &mut |_, _| room);
+            }
+            two_buffers(run, spelling, &text);
         }
-        two_buffers(run, &s);
     }
     // Refusals keep their number, whatever the room.
-    for (s, _) in KNOWN {
-        for room in 0..30 {
-            run.compare_rooms(s.as_bytes(), &mut |_, _| room);
+    for spelling in SPELLINGS {
+        for (s, _) in spelling.known {
+            for room in 0..30 {
+                run.compare_rooms(s.as_bytes(), &mut |_, _| room);
+            }
+            two_buffers(run, spelling, s.as_bytes());
         }
-        two_buffers(run, s.as_bytes());
     }
     // Often enough that each empty slice comes both as NULL and otherwise.
     for _ in 0..200 {
         run.compare_rooms(b"", &mut |_, _| 0);
         run.compare_rooms(b"$pbkdf2s2", &mut |_, needed| needed);
-        let empty = Fields { id: 4, version: None, m: 0, t: 100, p: 0, keyid: vec![], data: vec![], salt: vec![], output: vec![] };
-        run.write_entry(&Arguments::of(&empty), 0).ok();
-        run.write_entry(&Arguments::of(&empty), PHC_ROOM).ok();
-        run.cases += 2;
+        run.compare_rooms(b"{pbkdf2s2}t=100", &mut |_, needed| needed);
+        for spelling in SPELLINGS {
+            for room in [0, PHC_ROOM] {
+                run.write_entry(spelling, &Arguments::of(&Fields { t: 100, ..ID_ALONE }), room).ok();
+                run.cases += 1;
+            }
+        }
+    }
+}
+
+// Prefixes of the directory spelling.
+
+/// Beside `{pbkdf2s2}`.
+const NEAR_MISSES: [&str; 36] = [
+    "", "{", "}", "{}", "{}{", "{$", "{pbkdf2s2", "pbkdf2s2}", "pbkdf2s2", "$pbkdf2s2$", "{pbkdf2s2$", "$pbkdf2s2}", "{$pbkdf2s2$}",
+    "${pbkdf2s2}", "${pbkdf2s2}$", "{pbkdf2s2}}", "{{pbkdf2s2}", "{{pbkdf2s2}}", "{pbkdf2s2}{pbkdf2s3}", "{pbkdf2s3}$pbkdf2s2$",
+    "}pbkdf2s2{", "{pbkdf2s1}", "{pbkdf2s4}", "{pbkdf2s}", "{pbkdf2s22}", "{pbkdf2}", "{PBKDF2S2}", "{Pbkdf2s2}", " {pbkdf2s2}",
+    "{pbkdf2s2 }", "(pbkdf2s2)", "[pbkdf2s2]", "{argon2d}", "{argon2i}", "{argon2id}", "{CRYPT}$pbkdf2s2$",
+];
+
+fn prefixes(run: &mut Run) {
+    let mut texts: Vec<Vec<u8>> = (0..40).map(|_| braced(&reference::write(&directory_fields(&mut run.rng)).unwrap())).collect();
+    texts.extend([4, 5].map(|id| braced(&reference::write(&highest_fields(&mut run.rng, id)).unwrap())));
+    // Cut at every length.
+    for text in &texts {
+        for len in 0..text.len() {
+            run.compare_string(&text[..len]);
+        }
+    }
+
+    let rests = ["", "$", "}", "$x", "v=19", "t=100", "t=20000", "m=8,t=1,p=1", "AAAAAA", "AAAAAA$AAAAAAAAAAAAAAAA"];
+    for rest in rests {
+        for near in NEAR_MISSES {
+            run.compare_string(&[near, rest].concat().into_bytes());
+        }
+        for prefix in ["{pbkdf2s2}", "{pbkdf2s3}"] {
+            let text = [prefix, rest].concat().into_bytes();
+            for place in 0..prefix.len() {
+                // Each byte left out, twice, and at every value.
+                run.compare_string(&[&text[..place], &text[place + 1..]].concat());
+                run.compare_string(&[&text[..=place], &text[place..]].concat());
+                for byte in 0..=u8::MAX {
+                    let mut text = text.clone();
+                    text[place] = byte;
+                    run.compare_string(&text);
+                }
+            }
+        }
     }
 }
 
 fn known(run: &mut Run) {
-    for (s, number) in KNOWN {
-        let input = || s.to_string();
-        let reference = reference::read(s.as_bytes()).err().map_or(0, u64::from);
-        run.same("the reference's number of a known string", &input, &reference, &number);
-        let (mut string, mut record) = (Lent::new(&mut run.rng, s.as_bytes()), Lent::room(&mut run.rng, PHC_RECORD));
-        // SAFETY: both slices are whole and apart.
-        let library = unsafe { phc_read(string.ptr(), string.len, record.ptr(), record.len) };
-        run.same("the library's number of a known string", &input, &library, &number);
-        run.compare_string(s.as_bytes());
+    for spelling in SPELLINGS {
+        for (s, number) in spelling.known {
+            let reading = (spelling.read)(s.as_bytes());
+            let given = *reading.as_ref().err().unwrap_or(&0);
+            run.same("the reference's number of a known text", &|| s.to_string(), &given, number);
+            run.read_all_entry(spelling, s.as_bytes(), PHC_RECORD_ALL, PHC_BYTES, &reading);
+            run.compare_string(s.as_bytes());
+        }
+    }
+    for (fields, number) in known_fields() {
+        let given = reference::directory_write(&fields).err().unwrap_or(0);
+        run.same("the reference's number of known fields", &|| format!("{fields:?}"), &given, &number);
+        // From none to more than the id alone needs.
+        for room in (0..=12).chain([PHC_ROOM]) {
+            for spelling in SPELLINGS {
+                run.write_entry(spelling, &Arguments::of(&fields), room).ok();
+                run.cases += 1;
+            }
+        }
     }
     for s in RECORDS.split(|b| *b == b'\n') {
         run.compare_string(s);
@@ -612,17 +820,12 @@ fn main() {
         seed,
         rng,
         cases: 0,
-        read: 0,
         good: 0,
-        written: 0,
-        longest_written: 0,
+        good_braced: 0,
         longest_read: 0,
         past_grammar: 0,
-        reader_numbers: [0; 18],
-        past_profiles: [0; 18],
-        read_all_numbers: [0; 18],
-        writer_numbers: [0; 18],
-        short_numbers: [0; 18],
+        seen: HashMap::new(),
+        past_longest: HashMap::new(),
         versions: HashMap::new(),
     };
 
@@ -631,40 +834,60 @@ fn main() {
     grammar_limits(&mut run);
     mutations(&mut run);
     random(&mut run);
+    prefixes(&mut run);
     long_strings(&mut run);
     buffers(&mut run);
     good_strings(&mut run);
 
-    println!("{} cases compared, {} accepted by the reader, {} by the writer", run.cases, run.read, run.written);
-    println!(
-        "{} strings of more than {PHC_ROOM} bytes among them, {} of more than {GRAMMAR_ROOM}, the longest of {}",
-        run.past_profiles.iter().sum::<u64>(),
-        run.past_grammar,
-        run.longest_read
-    );
-    println!("{} good strings more, all accepted", run.good);
+    println!("{} cases compared", run.cases);
+    for spelling in SPELLINGS {
+        for (entry, what) in [(spelling.reader, "accepted"), (spelling.writer, "written")] {
+            let numbers = &run.seen[entry].numbers;
+            let refusals = (1..numbers.len()).filter(|row| numbers[*row] > 0).map(|row| format!(", {} with {row}", numbers[row]));
+            println!("{entry}: {} {what}{}", numbers[0], refusals.collect::<String>());
+        }
+    }
+    println!("{} texts of more than {GRAMMAR_ROOM} bytes among them, the longest of {}", run.past_grammar, run.longest_read);
+    println!("{} good strings and {} good braced texts more, all accepted", run.good, run.good_braced);
 
     // A run that leaves a rule out shows nothing of it.
-    assert!(run.cases >= 300_000 && run.read > 20_000 && run.written > 20_000 && run.good >= GOOD, "too few cases");
-    for row in 0..=15 {
-        assert!(run.reader_numbers[row] > 100, "the reader's number {row} came up too seldom");
+    assert!(run.cases >= 1_000_000 && run.good >= GOOD && run.good_braced > GOOD / 3, "too few cases");
+    let reader: Vec<usize> = (0..=15).chain([17]).collect();
+    let entries: [(&str, &[usize]); 11] = [
+        ("phc_read", &reader),
+        ("phc_read_all", &reader),
+        ("phc_keyid", &reader),
+        ("phc_data", &reader),
+        ("phc_salt", &reader),
+        ("phc_output", &reader),
+        ("phc_algorithm_version", &reader[..16]),
+        ("phc_write", &[0, 8, 9, 11, 12, 14, 15, 16, 17]),
+        ("phc_write_short", &[0, 8, 14, 15, 16, 17]),
+        // A prefix names an id, so 2 and 8 are none of its numbers.
+        ("phc_directory_read_all", &[0, 1, 3, 4, 5, 6, 7, 9, 10, 11, 12, 13, 14, 15, 17, 24]),
+        ("phc_directory_write", &[0, 9, 11, 12, 14, 15, 16, 17, 24]),
+    ];
+    for (entry, rows) in entries {
+        for (number, times) in run.seen[entry].numbers.iter().enumerate() {
+            assert_eq!(*times > 0, rows.contains(&number), "the number {number} of {entry}");
+            assert!(*times == 0 || *times > 100, "the number {number} of {entry} came up too seldom");
+        }
     }
-    for row in 1..=15 {
-        assert!(run.past_profiles[row] > 50, "the number {row} of a long string came up too seldom");
-    }
-    for row in (0..=15).chain([17]) {
-        assert!(run.read_all_numbers[row] > 100, "the number {row} of phc_read_all came up too seldom");
-    }
-    for row in [0, 8, 9, 11, 12, 14, 15, 16, 17] {
-        assert!(run.writer_numbers[row] > 100, "the writer's number {row} came up too seldom");
-    }
-    for row in [0, 8, 14, 15, 16, 17] {
-        assert!(run.short_numbers[row] > 100, "the short writer's number {row} came up too seldom");
+    for (spelling, good) in SPELLINGS.into_iter().zip([run.good, run.good_braced]) {
+        let [reader, writer] = [spelling.reader, spelling.writer].map(|entry| &run.seen[entry]);
+        for row in (1..reader.numbers.len()).filter(|row| *row != 17 && reader.numbers[*row] > 0) {
+            let times = run.past_longest[spelling.reader][row];
+            assert!(times > 50, "the number {row} of {} for a long text came up too seldom", spelling.reader);
+        }
+        // 24 says nothing of the other rules.
+        let judged = |seen: &Seen| seen.numbers[..24].iter().sum::<u64>();
+        assert!(judged(reader) - good > 100_000 && judged(writer) > 100_000, "too few cases of {}", spelling.reader);
+        assert!(reader.numbers[0] - good > 20_000 && writer.numbers[0] > 20_000, "too few good ones of {}", spelling.reader);
+        assert_eq!((reader.longest, writer.longest), (spelling.longest, spelling.longest), "the longest text of {}", spelling.reader);
     }
     for version in [0, 16, 19] {
         assert!(run.versions.get(&version).is_some_and(|n| *n > 1_000), "the algorithm version {version} came up too seldom");
     }
     assert_eq!(run.versions.len(), 3, "the algorithm versions");
-    assert_eq!(run.longest_written, PHC_ROOM, "the longest string");
     assert!(run.past_grammar > 4_000 && run.longest_read == LONGEST, "too few long strings");
 }

@@ -77,6 +77,12 @@ pub fn any_good_fields(rng: &mut Rng) -> Fields {
     good_fields(rng, id)
 }
 
+/// Of an id that has a directory spelling.
+pub fn directory_fields(rng: &mut Rng) -> Fields {
+    let id = rng.pick(&[4, 5]);
+    good_fields(rng, id)
+}
+
 pub fn numbers(p: u32) -> Vec<u32> {
     let mut all = vec![0, 1, 2, 7, 8, 9, 99, 100, 101, 254, 255, 256, 19_999, 20_000, 20_001, u32::MAX - 1, u32::MAX];
     // 8p as it is, and as a product that wraps would have it.
@@ -144,4 +150,15 @@ pub fn spell(a: &Arguments) -> Vec<u8> {
         }
     }
     s
+}
+
+/// The string with braces in place of its first two `$`.
+pub fn braced(s: &[u8]) -> Vec<u8> {
+    let mut t = s.to_vec();
+    for brace in *b"{}" {
+        if let Some(dollar) = t.iter_mut().find(|c| **c == b'$') {
+            *dollar = brace;
+        }
+    }
+    t
 }

@@ -1,6 +1,7 @@
 /* The header as a program sees it, in C or in C++: it compiles without a warning, declares what the archive exports, and its numbers are
  * right. */
 #include "phc.h"
+#include <string.h>
 
 #ifdef __cplusplus
 #define _Static_assert static_assert
@@ -13,9 +14,10 @@ _Static_assert(PHC_BYTES == 8 + 32 + 48 + 64, "keyid, data, salt and output");
 
 int main(void) {
     static const uint8_t string[] = "$pbkdf2s2$AAAAAA$AAAAAAAAAAAAAAAA";
+    static const uint8_t braced[] = "{pbkdf2s2}AAAAAA$AAAAAAAAAAAAAAAA";
     static const uint8_t absent[] = "$argon2i$m=8,t=1,p=1";
     uint8_t record[PHC_RECORD_ALL], bytes[PHC_BYTES], again[PHC_ROOM];
-    /* A length counts no NUL. */
+    /* A length counts no NUL, and is the same in both spellings. */
     const size_t len = sizeof string - 1;
 
     return phc_read(NULL, 0, record, PHC_RECORD) != 1
@@ -32,5 +34,12 @@ int main(void) {
         || phc_output(string, len, bytes + 4, sizeof bytes - 4) != 1200
         || phc_write(4, 0, 0, 0, 20000, 0, NULL, 0, NULL, 0, bytes, 4, bytes + 4, 12, again, sizeof again) != 100 * len
         || phc_write_short(4, bytes, 4, bytes + 4, 12, again, len) != 100 * len
-        || phc_write_short(4, bytes, 4, bytes + 4, 12, again, len - 1) != 17;
+        || phc_write_short(4, bytes, 4, bytes + 4, 12, again, len - 1) != 17
+        || phc_read_all(braced, len, record, sizeof record, bytes, sizeof bytes) != 1
+        || phc_directory_read_all(string, len, record, sizeof record, bytes, sizeof bytes) != 24
+        || phc_directory_read_all(braced, len, record, sizeof record, bytes, sizeof bytes) != 0
+        || record[0] != 3 || record[1] != 4 || record[28] != 4 || record[32] != 12
+        || phc_directory_write(4, 0, 0, 0, 20000, 0, NULL, 0, NULL, 0, bytes, 4, bytes + 4, 12, again, sizeof again) != 100 * len
+        || memcmp(again, braced, len) != 0
+        || phc_directory_write(4, 0, 0, 0, 20000, 0, NULL, 0, NULL, 0, NULL, 0, NULL, 0, again, sizeof again) != 24;
 }

@@ -7,6 +7,13 @@ pub const PHC_RECORD_ALL: usize = 36;
 pub const PHC_BYTES: usize = 152;
 
 pub type StringEntry = unsafe extern "C" fn(*const u8, usize, *mut u8, usize) -> u64;
+pub type ReadAllEntry = unsafe extern "C" fn(*const u8, usize, *mut u8, usize, *mut u8, usize) -> u64;
+pub type WriteEntry = unsafe extern "C" fn(
+    u8, u8, u32, u32, u32, u32,
+    *const u8, usize, *const u8, usize,
+    *const u8, usize, *const u8, usize,
+    *mut u8, usize,
+) -> u64;
 
 extern "C" {
     pub fn phc_read(s: *const u8, s_len: usize, record: *mut u8, record_len: usize) -> u64;
@@ -24,5 +31,14 @@ extern "C" {
     ) -> u64;
     pub fn phc_write_short(
         id: u8, salt: *const u8, salt_len: usize, output: *const u8, output_len: usize, buf: *mut u8, buf_len: usize,
+    ) -> u64;
+    pub fn phc_directory_read_all(
+        t: *const u8, t_len: usize, record: *mut u8, record_len: usize, buf: *mut u8, buf_len: usize,
+    ) -> u64;
+    pub fn phc_directory_write(
+        id: u8, has_version: u8, version: u32, m: u32, t: u32, p: u32,
+        keyid: *const u8, keyid_len: usize, data: *const u8, data_len: usize,
+        salt: *const u8, salt_len: usize, output: *const u8, output_len: usize,
+        buf: *mut u8, buf_len: usize,
     ) -> u64;
 }

@@ -9,9 +9,11 @@ use crate::reference;
 pub const GRAMMAR_ROOM: usize = 2_896;
 pub const LONGEST: usize = 1_000_000;
 
-/// Beside each limit and far past it. A count of 16 bits would take two of them for 265 and 2,896.
-pub const LENGTHS: [usize; 14] =
-    [0, 1, 264, 265, 266, 2_895, GRAMMAR_ROOM, 2_897, 3_000, 4_096, 65_536, 65_536 + 265, 65_536 + GRAMMAR_ROOM, LONGEST];
+/// Beside each limit and far past it. A count of 16 bits would take three of them for 171, 265 and 2,896.
+pub const LENGTHS: [usize; 18] = [
+    0, 1, 170, 171, 172, 264, 265, 266, 2_895, GRAMMAR_ROOM, 2_897, 3_000, 4_096,
+    65_536, 65_536 + 171, 65_536 + 265, 65_536 + GRAMMAR_ROOM, LONGEST,
+];
 
 /// The grammar accepts it; its id is none of the five.
 pub fn longest_of_grammar(rng: &mut Rng) -> Vec<u8> {
@@ -52,13 +54,19 @@ pub fn beginnings(rng: &mut Rng) -> Vec<Vec<u8>> {
         "$argon2id$v=19$m=65536,t=2,p=1,keyid=",
         "$argon2id$v=19$m=65536,t=2,p=1$",
         "$argon2id$v=19$m=65536,t=2,p=1$gZiV/M1gPc22ElAH/Jh1Hw$",
+        "$pbkdf2s2$",
         "$pbkdf2s2$t=",
+        "$pbkdf2s3$v=",
+        "$pbkdf2s3$keyid=",
+        "$pbkdf2s3$AAAAAA$",
+        "{pbkdf2s2",
+        "{pbkdf2s4}",
     ]
     .map(|text| text.as_bytes().to_vec())
     .to_vec();
     all.push(reference::write(&any_good_fields(rng)).unwrap());
-    // The longest that is accepted.
-    all.push(reference::write(&highest_fields(rng, 3)).unwrap());
+    // The longest that are accepted.
+    all.extend([3, 5].map(|id| reference::write(&highest_fields(rng, id)).unwrap()));
     all.push(longest_of_grammar(rng));
     all
 }

@@ -6,7 +6,7 @@ use crate::chance::Rng;
 pub const NAME: &[u8] = b"abz09-";
 pub const TEXT: &[u8] = b"abzAZ09/+.-";
 
-pub const ALPHABET: &[u8] = b"$$$$==,,,vmtpkeyidatargon2pbkdf2s3idABab0123456789+/.-";
+pub const ALPHABET: &[u8] = b"$$$$==,,,{}vmtpkeyidatargon2pbkdf2s3idABab0123456789+/.-";
 
 pub const NUMERALS: [&str; 22] = [
     "", "0", "00", "-", "-0", "-1", "+1", "1", "01", "16", "19", "019", "19 ", "99", "100", "20000", "020000", "4294967295", "4294967296",

@@ -324,6 +324,33 @@ pub fn write_short(id: u8, salt: &[u8], output: &[u8]) -> Result<Vec<u8>, u8> {
     write(&Fields { id, version, m, t, p, keyid: vec![], data: vec![], salt: salt.to_vec(), output: output.to_vec() })
 }
 
+// The directory spelling. Row 24 comes first; after it the numbers are those of the string.
+
+/// How a string begins, and how it begins in the directory.
+const DIRECTORY: [(&[u8], &[u8]); 2] = [(b"$pbkdf2s2$", b"{pbkdf2s2}"), (b"$pbkdf2s3$", b"{pbkdf2s3}")];
+
+/// The text with another beginning in place of this one, which something must follow.
+fn respelled(text: &[u8], from: &[u8], to: &[u8]) -> Option<Vec<u8>> {
+    let rest = text.strip_prefix(from).filter(|rest| !rest.is_empty())?;
+    Some([to, rest].concat())
+}
+
+/// The kind and the fields of a braced text, or its number.
+pub fn directory_read(t: &[u8]) -> Result<(u8, Fields), u8> {
+    let s = DIRECTORY.iter().find_map(|(dollar, brace)| respelled(t, brace, dollar)).ok_or(24)?;
+    read(&s)
+}
+
+/// The one braced text of the fields, or the number of their fault.
+pub fn directory_write(fields: &Fields) -> Result<Vec<u8>, u8> {
+    if !matches!(fields.id, 4 | 5) {
+        return Err(24);
+    }
+    let s = write(fields)?;
+    // Nothing is found for the id alone.
+    DIRECTORY.iter().find_map(|(dollar, brace)| respelled(&s, dollar, brace)).ok_or(24)
+}
+
 /// Row 17: the bytes, if a buffer of this room takes them.
 pub fn fit(bytes: Vec<u8>, room: usize) -> Result<Vec<u8>, u8> {
     if bytes.len() > room {

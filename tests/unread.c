@@ -1,4 +1,4 @@
-/* No entry reads past the 2,896th byte of a string: the length says that it is refused. Strings are lent whose bytes after that lie on pages
+/* No entry reads past the 2,896th byte of a text: the length says that it is refused. Texts are lent whose bytes after that lie on pages
  * that can't be read, so that a look at one ends the program. */
 #define _DEFAULT_SOURCE
 #include "phc.h"
@@ -11,18 +11,21 @@
 #define RESERVED ((size_t)1 << 28)
 
 static const char *const beginnings[] = {"$", "$argon2id$v=", "$argon2id$v=19$m=", "$argon2id$v=19$m=65536,t=2,p=1,keyid=",
-                                         "$argon2id$v=19$m=65536,t=2,p=1$", "$pbkdf2s2$t=", ""};
-static const char fillers[] = "aA0$=,";
+                                         "$argon2id$v=19$m=65536,t=2,p=1$", "$pbkdf2s2$t=", "", "{", "{pbkdf2s2", "{pbkdf2s2}",
+                                         "{pbkdf2s3}t=", "{pbkdf2s3}AAAAAA$", "{pbkdf2s4}", "{argon2id}v="};
+static const char fillers[] = "aA0$=,}";
 static const size_t lengths[] = {LONGEST + 1, 3000, 65536, 1000000, RESERVED};
 
-/* Every entry that takes a string; how many gave another number than 1. */
+/* Every entry that takes a text; how many gave another number than 1, or the directory's than 24 where its prefix is missing. */
 static unsigned others(const uint8_t *s, size_t len)
 {
     uint8_t record[PHC_RECORD_ALL], buf[PHC_BYTES];
+    uint64_t directory = memcmp(s, "{pbkdf2s2}", 10) == 0 || memcmp(s, "{pbkdf2s3}", 10) == 0 ? 1 : 24;
     return (phc_read(s, len, record, sizeof record) != 1) + (phc_read_all(s, len, record, sizeof record, buf, sizeof buf) != 1)
         + (phc_keyid(s, len, buf, sizeof buf) != 1) + (phc_data(s, len, buf, sizeof buf) != 1)
         + (phc_salt(s, len, buf, sizeof buf) != 1) + (phc_output(s, len, buf, sizeof buf) != 1)
-        + (phc_algorithm_version(s, len) != 1);
+        + (phc_algorithm_version(s, len) != 1)
+        + (phc_directory_read_all(s, len, record, sizeof record, buf, sizeof buf) != directory);
 }
 
 int main(void)
@@ -41,8 +44,8 @@ int main(void)
                 memset(s, fillers[f], LONGEST);
                 memcpy(s, beginnings[b], strlen(beginnings[b]));
                 wrong += others(s, lengths[l]);
-                calls += 7;
+                calls += 8;
             }
-    printf("%u calls with strings of more than %d bytes, %u not refused with 1\n", calls, LONGEST, wrong);
+    printf("%u calls with texts of more than %d bytes, %u with another number\n", calls, LONGEST, wrong);
     return wrong != 0;
 }

@@ -4,17 +4,14 @@ use crate::walk::BUFFER_LEN;
 use crate::walk::Walk;
 use crate::walk::walk_string;
 use b64::alphabet::SEXTETS;
-use profile::fields::NumberFields;
 use profile::fields::Reading;
-use table::version::Version;
 use text::place::write_text;
-use text::units::Bytes;
 ghost use Prim.Native.Nat.{_≤_};
 ghost use mathlib.Core.Path.{_≡_};
 ghost use lib.ListN.{length};
 ghost use Rattle.table.specs.Limits.{editionTwo};
 ghost use Rattle.profile.specs.Entries.{reading};
-ghost use Rattle.fast_path.specs.Contents.{refusedContents, allDecoded, contents};
+ghost use Rattle.fast_path.specs.Contents.{allDecoded, contents};
 ghost use Rattle.fast_path.specs.Walk.{walked};
 ghost use Rattle.fast_path.specs.WalkSteps.{bufferLength, FoundIn, total, StoredIs};
 
@@ -41,29 +38,6 @@ pub fn read(s: &[u8]) -> Reading
     }
 }
 
-fn refused(number: u8) -> Contents
-    ensures { λ r. ⌜ r ≡ refusedContents number ⌝ }
-{
-    let none = Bytes(0);
-    Contents {
-        reading: Reading {
-            number,
-            kind: 0,
-            fields: NumberFields {
-                id: 0,
-                version: Version::Absent,
-                m: 0,
-                t: 0,
-                p: 0,
-            },
-        },
-        keyid: none,
-        data: none,
-        salt: none,
-        output: none,
-    }
-}
-
 // The bytes that were found, into the caller's buffer; 17 where they don't fit.
 fn store(c: Contents, out: &[u8], buf: &mut [u8], at: usize) -> Contents
     requires { ⌜ total c ≤ length (now out) ⌝ }
@@ -72,7 +46,7 @@ fn store(c: Contents, out: &[u8], buf: &mut [u8], at: usize) -> Contents
     let n = c.keyid.0 + c.data.0 + c.salt.0 + c.output.0;
     let w = write_text(&out[0..n], buf, at);
     if w.number != 0 {
-        return refused(w.number);
+        return Contents::refused(w.number);
     }
     c
 }
@@ -86,7 +60,7 @@ pub fn read_all(s: &[u8], buf: &mut [u8], at: usize) -> Contents
     match walk_in(s, &mut out) {
         Walk::Nothing => {
             let r = profile::reader::read(s);
-            refused(r.number)
+            Contents::refused(r.number)
         }
         Walk::Found(c) => store(c, &out, buf, at),
     }

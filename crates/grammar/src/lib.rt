@@ -4,7 +4,7 @@ pub mod bytes;
 mod classes;
 pub mod item_places;
 mod items;
-mod limits;
+pub mod limits;
 pub mod names;
 pub mod numbers;
 pub mod parts;

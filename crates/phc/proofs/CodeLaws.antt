@@ -3,7 +3,7 @@
 use Prim.Native.Nat.{ℕ, zero, suc, _*_, _≤_}
 use mathlib.Core.Bool.{Bool, true, false, not, cond, and-false}
 use mathlib.Core.List.{List}
-use mathlib.Core.Path.{_≡_, refl, ap}
+use mathlib.Core.Path.{_≡_, refl, ap, _∙_}
 use native.Mathlib.Omega.{arith}
 use lib.Dec.{leb, eqb}
 use borrow.Author.Tests.{eqb-true, eqb-false, lt-leb}
@@ -11,12 +11,9 @@ use Rattle.text.specs.Place.{Outcome, outcome}
 use Rattle.text.proofs.Tests.{to-within}
 use Rattle.phc.specs.Records.{codeOf, coded, isRefusal}
 
-module _ (n c : ℕ) (left : List ℕ) (o : Outcome) (e : outcome n c left ≡ o) where
-  pub left-is : left ≡ o .buffer
-  left-is = ap (λ (x : Outcome). x .buffer) e
-
-  pub coded-is : codeOf n c ≡ coded o
-  coded-is = ap coded e
+-- what an entry gave as one answer, and the buffer as it left it
+pub answered : (n c : ℕ) (left : List ℕ) (o : Outcome) → outcome n c left ≡ o → (answer : ℕ) → answer ≡ codeOf n c → (answer ≡ coded o) × (left ≡ o .buffer)
+answered n c left o e answer q = (q ∙ ap coded e, ap (λ (x : Outcome). x .buffer) e)
 
 -- a hundred times what was found is none of 1 to 99; a number up to 99 that is not 0 is
 found-tells : (found : ℕ) → isRefusal (100 * found) ≡ false

@@ -3,20 +3,25 @@
 use Prim.Native.Nat.{ℕ, _+_, _≤_, _<_}
 use mathlib.Core.Bool.{Bool, true, false, cond}
 use mathlib.Core.List.{List, _++_}
+use mathlib.Core.Option.{none, some}
 use mathlib.Core.Path.{_≡_, refl, sym, ap, _∙_}
 use native.Mathlib.Omega.{arith}
 use lib.Dec.{eqb}
 use lib.ListN.{length}
 use borrow.Author.Tests.{eqb-true, eqb-false, eq-eqb}
-use Rattle.text.specs.Place.{Outcome, over, putAfter}
-use Rattle.text.proofs.Writing.{put-refused, put-clear, put-full, put-done, after-zero, after-number}
+use Rattle.text.specs.Text.{maybe}
+use Rattle.text.specs.Place.{Outcome, refused, over, putAfter}
+use Rattle.text.proofs.Writing.{put-refused, put-clear, put-full, put-done, after-zero, after-done, after-number}
+use Rattle.grammar.specs.Pieces.{OptionalText}
 use Rattle.table.specs.Limits.{editionTwo}
 use Rattle.profile.specs.Reader.{readerNumber, fieldsOf}
-use Rattle.profile.specs.Entries.{reading}
+use Rattle.profile.specs.Entries.{refusedReading, reading}
 use Rattle.profile.proofs.ReadLaws.{reading-number}
 use Rattle.fast_path.specs.Contents.{joinedBytes, counted, refusedContents, allDecoded, contents}
 use Rattle.fast_path.specs.declared.contents.Contents.{Contents}
-use Rattle.phc.specs.Records.{recordBytes, countBytes, recordAllLength, allOutcome, recordedAll}
+use Rattle.directory.specs.Braced.{dollarString}
+use Rattle.directory.specs.Entries.{directoryReading, directoryAllDecoded, directoryContents}
+use Rattle.phc.specs.Records.{recordBytes, countBytes, recordAllLength, recordedContents, allOutcome, recordedAll, directoryRecordedAll}
 
 -- the number of the contents is that of the bytes
 contents-number : (s buffer : List ℕ) → contents editionTwo s buffer 0 .reading .number ≡ allDecoded editionTwo s buffer 0 .number
@@ -76,7 +81,7 @@ module _ (s «record» buffer : List ℕ) where
     number-is : c .reading .number ≡ allDecoded editionTwo s buffer 0 .number
     number-is = ap (λ (x : Contents). x .reading .number) e ∙ contents-number s buffer
 
-    pub record-all-refused : (c .reading .number ≡ 0 → ⊥) → allOutcome (c .reading .number) «record» left ≡ recordedAll s «record» buffer
+    record-all-refused : (c .reading .number ≡ 0 → ⊥) → allOutcome (c .reading .number) «record» left ≡ recordedAll s «record» buffer
     unfolding recordedAll
     record-all-refused z =
         let r = put-refused «record» 0 told (allDecoded editionTwo s buffer 0 .number) (c .reading .number) (sym number-is) (omega (arith, z)) in
@@ -86,10 +91,73 @@ module _ (s «record» buffer : List ℕ) where
     unfolding contents
     all-is z = e ∙ rw (eq-eqb (allDecoded editionTwo s buffer 0 .number) 0 (sym number-is ∙ z))
 
-    pub record-all-done : c .reading .number ≡ 0 → (wrote : List ℕ) → wrote ≡ over «record» 0 (recordBytes (c .reading) ++ countBytes c)
+    record-all-done : c .reading .number ≡ 0 → (wrote : List ℕ) → wrote ≡ over «record» 0 (recordBytes (c .reading) ++ countBytes c)
         → allOutcome 0 wrote left ≡ recordedAll s «record» buffer
     unfolding recordedAll
     record-all-done z wrote q =
         let n : allDecoded editionTwo s buffer 0 .number ≡ 0 = sym number-is ∙ z in
         let r = put-done «record» 0 told (omega arith) recordAllLength refl wrote (q ∙ ap (λ (x : Contents). over «record» 0 (recordBytes (x .reading) ++ countBytes x)) (all-is z)) in
         rw (bytes-are, put-clear «record» 0 told (allDecoded editionTwo s buffer 0 .number) n, ← r, n, w)
+
+    -- what was read, given back
+    given-all : allOutcome (recordedContents c «record» .number) (recordedContents c «record» .buffer) left ≡ recordedAll s «record» buffer
+    given-all = go (eqb (c .reading .number) 0) refl
+      where
+        go : (b : Bool) → eqb (c .reading .number) 0 ≡ b
+            → allOutcome (recordedContents c «record» .number) (recordedContents c «record» .buffer) left ≡ recordedAll s «record» buffer
+        go true t =
+            let z = eqb-true (c .reading .number) 0 t in
+            let r = after-done (c .reading .number) «record» 0 (recordBytes (c .reading) ++ countBytes c) z (omega arith) in
+            (λ i. allOutcome (r i .number) (r i .buffer) left) ∙ record-all-done z (over «record» 0 (recordBytes (c .reading) ++ countBytes c)) refl
+        go false t =
+            let z = eqb-false (c .reading .number) 0 t in
+            let r = put-refused «record» 0 (recordBytes (c .reading) ++ countBytes c) (c .reading .number) (c .reading .number) refl (omega (arith, z)) in
+            (λ i. allOutcome (sym r i .number) (sym r i .buffer) left) ∙ record-all-refused z
+
+    pub record-all-given : (n : ℕ) → n ≡ recordedContents c «record» .number → (wrote : List ℕ) → wrote ≡ recordedContents c «record» .buffer
+        → allOutcome n wrote left ≡ recordedAll s «record» buffer
+    record-all-given n p wrote q = (λ i. allOutcome (p i) (q i) left) ∙ given-all
+
+-- ---- what was read, given back by itself
+
+module _ (c : Contents) («record» : List ℕ) where
+  pub given-refused : (c .reading .number ≡ 0 → ⊥) → (c .reading .number ≡ recordedContents c «record» .number) × («record» ≡ recordedContents c «record» .buffer)
+  given-refused z =
+      let r = put-refused «record» 0 (recordBytes (c .reading) ++ countBytes c) (c .reading .number) (c .reading .number) refl (omega (arith, z)) in
+      (ap (λ (o : Outcome). o .number) r, ap (λ (o : Outcome). o .buffer) r)
+
+  pub given-done : c .reading .number ≡ 0 → recordAllLength ≤ length «record» → (wrote : List ℕ) → wrote ≡ over «record» 0 (recordBytes (c .reading) ++ countBytes c)
+      → (0 ≡ recordedContents c «record» .number) × (wrote ≡ recordedContents c «record» .buffer)
+  given-done z h wrote q =
+      let r = after-done (c .reading .number) «record» 0 (recordBytes (c .reading) ++ countBytes c) z (omega arith) in
+      (sym (ap (λ (o : Outcome). o .number) r), q ∙ sym (ap (λ (o : Outcome). o .buffer) r))
+
+-- ---- of a braced text
+
+module _ (t «record» buffer : List ℕ) where
+  pub directory-all-short : length «record» < recordAllLength
+      → (n : ℕ) → n ≡ cond (eqb (directoryReading editionTwo t .number) 0) 17 (directoryReading editionTwo t .number)
+      → allOutcome n «record» buffer ≡ directoryRecordedAll t «record» buffer
+  unfolding directoryReading directoryRecordedAll
+  directory-all-short h n = go (dollarString t)
+    where
+      go : (o : OptionalText)
+          → let r = maybe (refusedReading 24) (reading editionTwo) o in
+          n ≡ cond (eqb (r .number) 0) 17 (r .number)
+          → allOutcome n «record» buffer ≡ maybe (allOutcome 24 «record» buffer) (λ (s : List ℕ). recordedAll s «record» buffer) o
+      go none e = ap (λ (k : ℕ). allOutcome k «record» buffer) e
+      go (some s) e = record-all-short s «record» buffer h n e
+
+  pub directory-all-given : recordAllLength ≤ length «record» → (c : Contents) → c ≡ directoryContents editionTwo t buffer 0
+      → (left : List ℕ) → left ≡ directoryAllDecoded editionTwo t buffer 0 .buffer
+      → (n : ℕ) → n ≡ recordedContents c «record» .number → (wrote : List ℕ) → wrote ≡ recordedContents c «record» .buffer
+      → allOutcome n wrote left ≡ directoryRecordedAll t «record» buffer
+  unfolding directoryContents directoryAllDecoded directoryRecordedAll putAfter
+  directory-all-given h c e left w n p wrote q = go (dollarString t) e w
+    where
+      go : (o : OptionalText) → c ≡ maybe (refusedContents 24) (λ (s : List ℕ). contents editionTwo s buffer 0) o
+          → left ≡ maybe (refused 24 buffer) (λ (s : List ℕ). allDecoded editionTwo s buffer 0) o .buffer
+          → allOutcome n wrote left ≡ maybe (allOutcome 24 «record» buffer) (λ (s : List ℕ). recordedAll s «record» buffer) o
+      go none e w =
+          (λ i. allOutcome (p i) (q i) left) ∙ (λ i. allOutcome (recordedContents (e i) «record» .number) (recordedContents (e i) «record» .buffer) (w i))
+      go (some s) e w = record-all-given s «record» buffer h c e left w n p wrote q

@@ -3,16 +3,18 @@
 use Prim.Native.Nat.{ℕ, _*_, _≤_}
 use mathlib.Core.Bool.{Bool, true, false, not, cond, _||_}
 use mathlib.Core.List.{List, _++_}
+use mathlib.Core.Option.{none, some}
 use mathlib.Core.Path.{_≡_, refl, sym, ap, _∙_}
 use native.Mathlib.Omega.{arith}
 use lib.Dec.{leb, eqb}
 use lib.ListN.{length}
 use borrow.Author.Tests.{eqb-true, eqb-false, leb-true, le-leb}
-use Rattle.text.specs.Text.{within, all, has}
+use Rattle.text.specs.Text.{within, all, has, maybe}
 use Rattle.text.specs.Place.{Outcome, putAfter, Refuses}
 use Rattle.text.proofs.Tests.{from-within}
 use Rattle.text.proofs.Lists.{all-has}
 use Rattle.text.proofs.Writing.{put-refused, after-zero, after-done, after-refuses}
+use Rattle.grammar.specs.Pieces.{OptionalText}
 use Rattle.table.specs.Limits.{editionTwo}
 use Rattle.profile.specs.Fields.{FieldSet}
 use Rattle.profile.specs.Reader.{fieldsOf}
@@ -22,7 +24,12 @@ use Rattle.profile.specs.Claims.{isReaderNumber, isByteStringNumber, writerNumb
 use Rattle.profile.specs.declared.fields.ByteString.{ByteString}
 use Rattle.profile.proofs.Promises.{promises}
 use Rattle.fast_path.specs.Contents.{joinedBytes, counted}
-use Rattle.phc.specs.Records.{recordBytes, countBytes, recorded, allOutcome, recordedAll, codeOf, coded, isRefusal}
+use Rattle.directory.specs.Braced.{dollarString}
+use Rattle.directory.specs.Entries.{directoryWriterNumber, directoryFormatted, directoryWriting}
+use Rattle.directory.specs.Claims.{isDirectoryByteStringNumber, directoryWriterNumbers, isDirectoryWriterNumber}
+use Rattle.directory.proofs.WriterLaws.{number-zero, text-length}
+use Rattle.directory.proofs.Claims.{directory-claims}
+use Rattle.phc.specs.Records.{recordBytes, countBytes, recorded, allOutcome, recordedAll, directoryRecordedAll, codeOf, coded, isRefusal}
 use Rattle.phc.proofs.CodeLaws.{code-tells, number-tells}
 
 -- ---- the numbers of an entry are at most 99
@@ -101,28 +108,52 @@ module _ (s «record» buffer : List ℕ) where
       let r = put-refused «record» 0 told (bytes .number) (bytes .number) refl (omega (arith, z)) in
       (b .0, λ i. allOutcome (bytes .number) (sym r i .buffer) (b .1 i .buffer))
 
+-- ---- the same of a braced text
+
+directory-small : (k : ℕ) → isDirectoryByteStringNumber k ≡ true → k ≤ 99
+directory-small k h = go (isByteStringNumber k) refl h
+  where
+    go : (b : Bool) → isByteStringNumber k ≡ b → (b || eqb k 24) ≡ true → k ≤ 99
+    go true e t = byte-string-small k e
+    go false e t = omega (arith, eqb-true k 24 t)
+
+pub directory-read-all-refuses : (t «record» buffer : List ℕ) → (directoryRecordedAll t «record» buffer .number ≡ 0 → ⊥)
+    → (isDirectoryByteStringNumber (directoryRecordedAll t «record» buffer .number) ≡ true)
+    × (directoryRecordedAll t «record» buffer ≡ allOutcome (directoryRecordedAll t «record» buffer .number) «record» buffer)
+unfolding directoryRecordedAll
+directory-read-all-refuses t «record» buffer = go (dollarString t)
+  where
+    go : (o : OptionalText)
+        → let all = maybe (allOutcome 24 «record» buffer) (λ (s : List ℕ). recordedAll s «record» buffer) o in
+        (all .number ≡ 0 → ⊥) → (isDirectoryByteStringNumber (all .number) ≡ true) × (all ≡ allOutcome (all .number) «record» buffer)
+    go none n = (refl, refl)
+    go (some s) n = let q = read-all-refuses s «record» buffer n in (rw (q .0), q .1)
+
 -- ---- a string has a byte
 
 not-empty : (f : FieldSet) → 1 ≤ length (formatted editionTwo f)
 unfolding formatted
 not-empty f = omega arith
 
-pub write-not-0 : (f : FieldSet) (buffer : List ℕ) → coded (writing editionTwo f buffer 0) ≡ 0 → ⊥
-unfolding writing
-write-not-0 f buffer z = go (eqb (putAfter n buffer 0 t .number) 0) refl z
+-- so what was put has one, and the answer is not 0
+put-not-0 : (n : ℕ) (t : List ℕ) → (n ≡ 0 → 1 ≤ length t) → (buffer : List ℕ) → coded (putAfter n buffer 0 t) ≡ 0 → ⊥
+put-not-0 n t h buffer z = go (eqb (putAfter n buffer 0 t .number) 0) refl z
   where
-    n : ℕ
-    n = writerNumber editionTwo f
-
-    t : List ℕ
-    t = formatted editionTwo f
-
     go : (b : Bool) → eqb (putAfter n buffer 0 t .number) 0 ≡ b → cond b (100 * putAfter n buffer 0 t .count) (putAfter n buffer 0 t .number) ≡ 0 → ⊥
     go true e z =
         let q = after-zero n buffer 0 t (eqb-true (putAfter n buffer 0 t .number) 0 e) in
         let c : putAfter n buffer 0 t .count ≡ length t = ap (λ (o : Outcome). o .count) (after-done n buffer 0 t (q .0) (q .1)) in
-        absurd (omega (arith, not-empty f))
+        absurd (omega (arith, h (q .0)))
     go false e z = eqb-false (putAfter n buffer 0 t .number) 0 e z
+
+pub write-not-0 : (f : FieldSet) (buffer : List ℕ) → coded (writing editionTwo f buffer 0) ≡ 0 → ⊥
+unfolding writing
+write-not-0 f = put-not-0 (writerNumber editionTwo f) (formatted editionTwo f) (λ z. not-empty f)
+
+pub directory-write-not-0 : (f : FieldSet) (buffer : List ℕ) → coded (directoryWriting editionTwo f buffer 0) ≡ 0 → ⊥
+unfolding directoryWriting
+directory-write-not-0 f =
+    put-not-0 (directoryWriterNumber editionTwo f) (directoryFormatted editionTwo f) (λ z. omega (arith, text-length f (number-zero f z), not-empty f))
 
 pub write-short-not-0 : (k : ℕ) (salt output buffer : List ℕ) → coded (shortWriting editionTwo k salt output buffer 0) ≡ 0 → ⊥
 write-short-not-0 k salt output buffer z =
@@ -158,3 +189,15 @@ pub write-short-answer : (k : ℕ) (salt output buffer : List ℕ)
 write-short-answer k salt output buffer =
     coded-answer isShortWriterNumber (listed shortWriterNumbers refl) buffer (shortWriting editionTwo k salt output buffer 0)
     (promises .demand-1 .write-short k salt output buffer 0)
+
+pub directory-read-all-answer : (t «record» buffer : List ℕ)
+    → isRefusal (directoryRecordedAll t «record» buffer .number) ≡ not (eqb (directoryRecordedAll t «record» buffer .number) 0)
+directory-read-all-answer t «record» buffer =
+    number-tells (directoryRecordedAll t «record» buffer .number)
+    (small isDirectoryByteStringNumber directory-small (directoryRecordedAll t «record» buffer .number) (λ z. directory-read-all-refuses t «record» buffer z .0))
+
+pub directory-write-answer : (f : FieldSet) (buffer : List ℕ)
+    → isRefusal (coded (directoryWriting editionTwo f buffer 0)) ≡ not (eqb (directoryWriting editionTwo f buffer 0 .number) 0)
+directory-write-answer f buffer =
+    coded-answer isDirectoryWriterNumber (listed directoryWriterNumbers refl) buffer (directoryWriting editionTwo f buffer 0)
+    (directory-claims .demand-1 .write f buffer 0)

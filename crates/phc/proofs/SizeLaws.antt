@@ -22,6 +22,8 @@ use Rattle.profile.proofs.Texts.{formatted-length}
 use Rattle.profile.proofs.Lengths.{most-room}
 use Rattle.profile.proofs.Accepted.{accepted}
 use Rattle.profile.proofs.Promises.{promises}
+use Rattle.directory.specs.Entries.{directoryWriterNumber, directoryFormatted, directoryWriting}
+use Rattle.directory.proofs.WriterLaws.{braced-most}
 
 -- ---- written
 
@@ -30,6 +32,14 @@ unfolding writing
 written-small f buffer number count left e z =
     let q = after-counted (writerNumber editionTwo f) buffer (formatted editionTwo f) number count left e z in
     omega (arith, q .1, most-room f (allowed editionTwo f (q .0)))
+
+-- a braced text is as long as its string
+pub braced-small : (f : FieldSet) (buffer : List ℕ) (number count : ℕ) (left : List ℕ) → outcome number count left ≡ directoryWriting editionTwo f buffer 0 → number ≡ 0
+    → count ≤ longestPermitted
+unfolding directoryWriting
+braced-small f buffer number count left e z =
+    let q = after-counted (directoryWriterNumber editionTwo f) buffer (directoryFormatted editionTwo f) number count left e z in
+    omega (arith, q .1, braced-most f (q .0))
 
 -- the short writer is the writer for its defaults
 pub short-small : (k : ℕ) (salt output buffer : List ℕ) (number count : ℕ) (left : List ℕ) → outcome number count left ≡ shortWriting editionTwo k salt output buffer 0

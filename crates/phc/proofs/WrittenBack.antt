@@ -1,35 +1,42 @@
--- What `phc_read_all` gave are the fields that the string carries, and `phc_write` writes them back.
+-- What `phc_read_all` gave are the fields that the string carries, and `phc_write` writes them back; so with braced texts.
 -- Assumes nothing.
 use Prim.Native.Nat.{ℕ, _+_, _*_, _/_, _%_, _≤_}
 use mathlib.Core.Bool.{Bool, true, _&&_}
-use mathlib.Core.List.{List, _∷_, _++_, append-assoc}
+use mathlib.Core.List.{List, [], _∷_, _++_, append-assoc}
+use mathlib.Core.Option.{none, some}
 use mathlib.Core.Path.{_≡_, refl, sym, ap, subst, _∙_}
 use native.Mathlib.Omega.{arith}
 use lib.Dec.{leb}
 use lib.ListN.{length, take, drop, length-append}
 use lib.Seq.{take-append-seam, drop-append-seam}
 use borrow.Author.Tests.{leb-true}
-use Rattle.text.specs.Text.{all}
+use Rattle.text.specs.Text.{all, maybe}
 use Rattle.text.specs.Place.{Outcome, outcome, over, putAfter}
 use Rattle.text.proofs.Tests.{both, from-within}
 use Rattle.text.proofs.Lists.{all-has}
 use Rattle.text.proofs.Table.{always}
 use Rattle.text.proofs.Over.{over-start}
 use Rattle.text.proofs.Writing.{after-zero, after-done}
+use Rattle.grammar.specs.Pieces.{OptionalText}
 use Rattle.table.specs.Limits.{Profile, noProfile, profileOf, editionTwo, largest32, lowest, highest, versionAllowed}
 use Rattle.table.specs.declared.version.Version.{Version}
 use Rattle.table.specs.declared.version.Version.the-variants.{Absent, Number}
 use Rattle.profile.specs.Fields.{FieldSet, fieldSet}
 use Rattle.profile.specs.Reader.{readerNumber, fieldsOf}
 use Rattle.profile.specs.Writer.{Permitted, formatted}
-use Rattle.profile.specs.Entries.{reading, writing}
+use Rattle.profile.specs.Entries.{noFields, reading, writing}
 use Rattle.profile.specs.declared.fields.NumberFields.{NumberFields}
 use Rattle.profile.specs.declared.fields.Reading.{Reading}
 use Rattle.profile.proofs.ReadLaws.{reading-number}
 use Rattle.profile.proofs.Promises.{promises}
 use Rattle.fast_path.specs.Contents.{joinedBytes, counted}
 use Rattle.fast_path.proofs.Claims.{fast-path-agrees}
-use Rattle.phc.specs.Records.{versionFlag, versionNumber, recordBytes, countBytes, recordedAll}
+use Rattle.directory.specs.Braced.{dollarString, longestBraced}
+use Rattle.directory.specs.Entries.{directoryNumber, directoryFields, directoryWriterNumber, directoryFormatted, directoryWriting}
+use Rattle.directory.proofs.ReaderLaws.{of-string}
+use Rattle.directory.proofs.WriterLaws.{braced-most}
+use Rattle.directory.proofs.Claims.{not-refused-text, directory-claims}
+use Rattle.phc.specs.Records.{versionFlag, versionNumber, recordBytes, countBytes, allOutcome, recordedAll, directoryRecordedAll}
 use Rattle.phc.specs.Writing.{versionField, handed, fieldsIn}
 
 -- ---- numbers of 32 bits
@@ -144,7 +151,7 @@ module _ (s «record» buffer : List ℕ) (z : recordedAll s «record» buffer .
   clear-record : (reading editionTwo s .number ≡ 0) × (0 + length told ≤ length «record»)
   clear-record = after-zero (reading editionTwo s .number) «record» 0 told (clear .0)
 
-  is-accepted : readerNumber editionTwo s ≡ 0
+  pub is-accepted : readerNumber editionTwo s ≡ 0
   is-accepted = sym (reading-number editionTwo s) ∙ clear-record .0
 
   back : Permitted editionTwo f × (formatted editionTwo f ≡ s)
@@ -163,7 +170,7 @@ module _ (s «record» buffer : List ℕ) (z : recordedAll s «record» buffer .
   unfolding recordedAll
   buffer-is = ap (λ (o : Outcome). o .buffer) (after-done fits buffer 0 (joinedBytes f) (clear .0) (clear .1)) ∙ over-start buffer (joinedBytes f)
 
-  handed-on : fieldsIn (recordedAll s «record» buffer .«record») (recordedAll s «record» buffer .buffer) ≡ f
+  pub handed-on : fieldsIn (recordedAll s «record» buffer .«record») (recordedAll s «record» buffer .buffer) ≡ f
   handed-on =
       let w = subst Words (sym numbers-are) (words f (back .0)) in
       let l : length (joinedBytes f) ≤ largest32 = omega (arith, fast-path-agrees .room s is-accepted) in
@@ -178,3 +185,26 @@ module _ (s «record» buffer : List ℕ) (z : recordedAll s «record» buffer .
       ap (λ (g : FieldSet). writing editionTwo g out 0) handed-on
       ∙ promises .entries-agree .writes f (back .0) out 0 (omega arith)
       ∙ ap (λ (u : List ℕ). outcome 0 (length u) (over out 0 u)) (back .1)
+
+-- ---- what `phc_directory_read_all` gave
+
+pub directory-written-back : (t «record» buffer out : List ℕ) → directoryRecordedAll t «record» buffer .number ≡ 0 → longestBraced ≤ length out
+    → directoryWriting editionTwo (fieldsIn (directoryRecordedAll t «record» buffer .«record») (directoryRecordedAll t «record» buffer .buffer)) out 0
+    ≡ outcome 0 (length t) (over out 0 t)
+unfolding directoryRecordedAll directoryNumber directoryFields directoryWriting
+directory-written-back t «record» buffer out z l = go (dollarString t) refl z
+  where
+    go : (o : OptionalText) → dollarString t ≡ o
+        → let all = maybe (allOutcome 24 «record» buffer) (λ (s : List ℕ). recordedAll s «record» buffer) o in
+        all .number ≡ 0 → directoryWriting editionTwo (fieldsIn (all .«record») (all .buffer)) out 0 ≡ outcome 0 (length t) (over out 0 t)
+    go none q z = absurd (omega arith)
+    go (some s) q z =
+        let g = fieldsOf editionTwo s in
+        let n = of-string 24 (readerNumber editionTwo) t s q ∙ is-accepted s «record» buffer z in
+        let k = of-string (fieldSet noFields [] [] [] []) (fieldsOf editionTwo) t s q in
+        let b = directory-claims .demand-3 .written-back t g (n, k) in
+        let y = not-refused-text g (b .0) in
+        let m = braced-most g y in
+        ap (λ (f : FieldSet). directoryWriting editionTwo f out 0) (handed-on s «record» buffer z)
+        ∙ after-done (directoryWriterNumber editionTwo g) out 0 (directoryFormatted editionTwo g) y (omega arith)
+        ∙ ap (λ (u : List ℕ). outcome 0 (length u) (over out 0 u)) (b .1)

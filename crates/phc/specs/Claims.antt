@@ -15,7 +15,10 @@ use Rattle.profile.specs.Entries.{reading, algorithmVersion, decoded, writing, 
 use Rattle.profile.specs.Claims.{isByteStringNumber}
 use Rattle.profile.specs.declared.fields.ByteString.{ByteString}
 use Rattle.fast_path.specs.Claims.{mostBytes}
-use Rattle.phc.specs.Records.{recorded, recordAllLength, allOutcome, recordedAll, codeOf, coded, isRefusal}
+use Rattle.directory.specs.Braced.{longestBraced}
+use Rattle.directory.specs.Entries.{hasPrefixId, directoryReading, directoryWriterNumber, directoryWriting}
+use Rattle.directory.specs.Claims.{isDirectoryByteStringNumber}
+use Rattle.phc.specs.Records.{recorded, recordAllLength, allOutcome, recordedAll, directoryRecordedAll, codeOf, coded, isRefusal}
 use Rattle.phc.specs.Writing.{handed, fieldsIn}
 
 pub record PhcClaims : Type 0 where
@@ -49,4 +52,24 @@ pub record PhcClaims : Type 0 where
   pub write-answer : (f : FieldSet) (buffer : List ℕ) → let o = writing editionTwo f buffer 0 in isRefusal (coded o) ≡ not (eqb (o .number) 0)
   pub write-short-answer : (k : ℕ) (salt output buffer : List ℕ)
       → let o = shortWriting editionTwo k salt output buffer 0 in
+      isRefusal (coded o) ≡ not (eqb (o .number) 0)
+  -- ---- the directory's spelling: the same of braced texts
+  pub directory-enough : (t «record» buffer : List ℕ) → recordAllLength ≤ length «record» → mostBytes ≤ length buffer
+      → directoryRecordedAll t «record» buffer .number ≡ directoryReading editionTwo t .number
+  pub directory-flag : (id flag version m t p : ℕ) (keyid «data» salt output : List ℕ) → 2 ≤ flag
+      → directoryWriterNumber editionTwo (handed id flag version m t p keyid «data» salt output) ≡ cond (hasPrefixId id) 9 24
+  -- 171 bytes are enough for every braced text
+  pub directory-written-back : (t «record» buffer out : List ℕ)
+      → let all = directoryRecordedAll t «record» buffer in
+      let written = directoryWriting editionTwo (fieldsIn (all .«record») (all .buffer)) out 0 in
+      all .number ≡ 0 → longestBraced ≤ length out → (coded written ≡ 100 * length t) × (written .buffer ≡ over out 0 t)
+  pub directory-write-not-0 : (f : FieldSet) (buffer : List ℕ) → coded (directoryWriting editionTwo f buffer 0) ≢ 0
+  pub directory-read-all-refuses : (t «record» buffer : List ℕ)
+      → let all = directoryRecordedAll t «record» buffer in
+      all .number ≢ 0 → (isDirectoryByteStringNumber (all .number) ≡ true) × (all ≡ allOutcome (all .number) «record» buffer)
+  pub directory-read-all-answer : (t «record» buffer : List ℕ)
+      → let number = directoryRecordedAll t «record» buffer .number in
+      isRefusal number ≡ not (eqb number 0)
+  pub directory-write-answer : (f : FieldSet) (buffer : List ℕ)
+      → let o = directoryWriting editionTwo f buffer 0 in
       isRefusal (coded o) ≡ not (eqb (o .number) 0)

@@ -14,6 +14,7 @@ use Rattle.profile.specs.Entries.{reading}
 use Rattle.profile.specs.declared.fields.Reading.{Reading}
 use Rattle.fast_path.specs.Contents.{joinedBytes, counted}
 use Rattle.fast_path.specs.declared.contents.Contents.{Contents}
+use Rattle.directory.specs.Entries.{ofDollarString}
 
 -- ---- the record
 
@@ -57,6 +58,10 @@ countBytes c = words (c .keyid .0) (c .«data» .0) (c .salt .0) (c .output .0)
 abbrev pub recordAllLength : ℕ
 recordAllLength = 36
 
+-- what was read, in a record's first 36 bytes; or its number, where the record is not written
+abbrev pub recordedContents : Contents → List ℕ → Outcome
+recordedContents c «record» = putAfter (c .reading .number) «record» 0 (recordBytes (c .reading) ++ countBytes c)
+
 -- a record with the counts after it, and the four byte strings one after the other
 pub record AllOutcome : Type 0 where
   pub number : ℕ
@@ -71,9 +76,13 @@ unfoldable pub recordedAll : List ℕ → List ℕ → List ℕ → AllOutcome
 recordedAll s «record» buffer =
     let c = counted (reading editionTwo s) (fieldsOf editionTwo s) in
     let text = recordBytes (c .reading) ++ countBytes c in
-    let fits = putAfter (c .reading .number) «record» 0 text in
+    let fits = recordedContents c «record» in
     let bytes = putAfter (fits .number) buffer 0 (joinedBytes (fieldsOf editionTwo s)) in
     allOutcome (bytes .number) (putAfter (bytes .number) «record» 0 text .buffer) (bytes .buffer)
+
+-- of a braced text: 24 comes first, and after it the outcome is that of the `$` string
+unfoldable pub directoryRecordedAll : List ℕ → List ℕ → List ℕ → AllOutcome
+directoryRecordedAll t «record» buffer = ofDollarString (allOutcome 24 «record» buffer) (λ (s : List ℕ). recordedAll s «record» buffer) t
 
 -- ---- one answer
 

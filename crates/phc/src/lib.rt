@@ -1,5 +1,7 @@
 // The profile's entries for programs in other languages: numbers and byte slices, under C names (include/phc.h).
+pub mod braced;
 mod code;
+mod handed;
 pub mod read_all;
 pub mod reading;
 mod record;

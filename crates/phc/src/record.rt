@@ -3,13 +3,16 @@
 use fast_path::contents::Contents;
 use profile::fields::Reading;
 use table::version::Version;
+use text::numbers::NO_ROOM;
 use text::place::write_text;
 ghost use Prim.Native.Nat.{_%_, _≤_};
 ghost use mathlib.Core.Path.{_≡_};
+ghost use mathlib.Core.Bool.{cond};
 ghost use mathlib.Core.List.{_++_};
+ghost use lib.Dec.{eqb};
 ghost use lib.ListN.{length};
 ghost use Rattle.text.specs.Place.{over};
-ghost use Rattle.phc.specs.Records.{versionFlag, versionNumber, words, headBytes, recordBytes, countBytes, recordLength, recordAllLength};
+ghost use Rattle.phc.specs.Records.{versionFlag, versionNumber, words, headBytes, recordBytes, countBytes, recordLength, recordAllLength, recordedContents};
 
 // The bytes of a record, and of one with the counts after it.
 pub const RECORD_LEN: usize = 20;
@@ -96,7 +99,7 @@ pub fn put_record(r: Reading, out: &mut [u8])
 }
 
 // The record and the counts after it.
-pub fn put_record_all(c: Contents, out: &mut [u8])
+fn put_record_all(c: Contents, out: &mut [u8])
     requires { ⌜ recordAllLength ≤ length (now out) ⌝ }
     ensures { λ _. ⌜ now (out .exit) ≡ over (now (out .entry)) 0 (recordBytes (c .reading) ++ countBytes c) ⌝ }
 {
@@ -107,4 +110,28 @@ pub fn put_record_all(c: Contents, out: &mut [u8])
         out,
         RECORD_LEN,
     );
+}
+
+// The refusal's number; 17 where there is none.
+pub fn number_or_full(number: u8) -> u64
+    ensures { λ r. ⌜ r ≡ cond (eqb number 0) 17 number ⌝ }
+{
+    if number == 0 {
+        return NO_ROOM as u64;
+    }
+    number as u64
+}
+
+// What was read, into a record that has room for it: 0, or the refusal's number.
+pub fn give_all(c: Contents, record: &mut [u8]) -> u64
+    requires { ⌜ recordAllLength ≤ length (now «record») ⌝ }
+    ensures { λ r. ⌜ (r ≡ recordedContents c (now («record» .entry)) .number) × (now («record» .exit) ≡ recordedContents c (now («record» .entry)) .buffer) ⌝ }
+{
+    let r = c.reading;
+    let number = r.number;
+    if number != 0 {
+        return number as u64;
+    }
+    put_record_all(c, record);
+    0
 }

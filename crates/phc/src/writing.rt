@@ -1,25 +1,13 @@
 // Writing: the string of the nine fields, and that of id, salt and output alone.
 use crate::code::code_of;
-use profile::fields::NumberFields;
+use crate::handed::handed_fields;
 use profile::writer::write;
 use profile::writer::write_short;
-use table::version::Version;
 ghost use mathlib.Core.Path.{_≡_};
 ghost use Rattle.table.specs.Limits.{editionTwo};
 ghost use Rattle.profile.specs.Entries.{writing, shortWriting};
 ghost use Rattle.phc.specs.Records.{coded};
-ghost use Rattle.phc.specs.Writing.{versionField, handed};
-
-// Absent, the number, or one that no profile permits.
-fn version_field(has_version: u8, version: u32) -> Version
-    ensures { λ r. ⌜ r ≡ versionField «has_version» version ⌝ }
-{
-    match has_version {
-        0 => Version::Absent,
-        1 => Version::Number(version),
-        _ => Version::Number(0),
-    }
-}
+ghost use Rattle.phc.specs.Writing.{handed};
 
 // The string into the buffer from its start: a hundred times the count, or the refusal's number. Free answer: a flag other than 0 and 1 is 9, or
 // 8 where the id is unknown.
@@ -39,13 +27,7 @@ pub extern "C" fn phc_write(
 ) -> u64
     ensures { λ r. ⌜ (r ≡ coded (writing editionTwo (handed id «has_version» version m t p (now (keyid .entry)) (now («data» .entry)) (now (salt .entry)) (now (output .entry))) (now (buf .entry)) 0)) × (now (buf .exit) ≡ writing editionTwo (handed id «has_version» version m t p (now (keyid .entry)) (now («data» .entry)) (now (salt .entry)) (now (output .entry))) (now (buf .entry)) 0 .buffer) ⌝ }
 {
-    let fields = NumberFields {
-        id,
-        version: version_field(has_version, version),
-        m,
-        t,
-        p,
-    };
+    let fields = handed_fields(id, has_version, version, m, t, p);
     let w = write(fields, keyid, data, salt, output, buf, 0);
     let count = w.count;
     code_of(w.number, count.0 as u64)

@@ -6,7 +6,7 @@ use Rattle.text.proofs.Tests.{not-of-true, is-true}
 use Rattle.text.proofs.Rows.{clear, zero-of}
 use Rattle.table.specs.Limits.{Profile, inRange, versionAllowed, profileOf}
 use Rattle.profile.specs.Fields.{FieldSet}
-use Rattle.profile.specs.Writer.{bytesAllowed, Allows, writerRows, writerNumber}
+use Rattle.profile.specs.Writer.{bytesAllowed, OfBytes, Allows, Permitted, writerRows, writerNumber}
 
 -- the column of the fields' id
 abbrev pub here : List Profile → FieldSet → Profile
@@ -55,3 +55,10 @@ allowed-zero e f h =
         ),
       ),
     )
+
+-- so its number is 0 exactly for permitted fields, where the byte strings hold bytes
+pub not-refused : (e : List Profile) (f : FieldSet) → Permitted e f → writerNumber e f ≡ 0
+not-refused e f h = allowed-zero e f (h .column)
+
+pub permitted : (e : List Profile) (f : FieldSet) → writerNumber e f ≡ 0 → OfBytes f → Permitted e f
+permitted e f z b = record { column = allowed e f z; bytes = b }

@@ -18,8 +18,8 @@ use Rattle.profile.specs.Fields.{FieldSet, chosen, writeBytes}
 use Rattle.profile.specs.Reader.{readerNumber, fieldsOf}
 use Rattle.profile.specs.Writer.{Permitted, writerNumber, fieldPieces, formatted}
 use Rattle.profile.specs.Entries.{kindOf, reading, decoded, writing}
-use Rattle.profile.specs.Spelling.{Demand3}
-use Rattle.profile.specs.Claims.{ruleSpelling, WrittenAt, WrittenTo, Carries, entrySpelling, EntriesDemand3, EntriesAgree, Lanes, Lengths}
+use Rattle.profile.specs.Spelling.{Demand3, ruleSpelling, EntriesDemand3}
+use Rattle.profile.specs.Claims.{profileRules, profileEntries, EntriesAgree, Lanes, Lengths}
 use Rattle.profile.specs.Sound.{sound}
 use Rattle.profile.specs.declared.fields.ByteString.{ByteString}
 use Rattle.profile.specs.declared.fields.ByteString.the-variants.{Keyid, Data, Salt, Output}
@@ -28,23 +28,17 @@ use Rattle.profile.proofs.ReadLaws.{reading-number, reading-fields}
 use Rattle.profile.proofs.SoundLaws.{at-id, edition-two-sound}
 use Rattle.profile.proofs.Written.{pieces-of, written}
 use Rattle.profile.proofs.Accepted.{accepted}
-use Rattle.profile.proofs.Demand3.{not-refused, permitted, demand-3-of}
+use Rattle.profile.proofs.Allows.{not-refused, permitted}
+use Rattle.profile.proofs.Demand3.{Inverse, demand-3-rules, Follows, writes-own, carries-written, demand-3-entries}
 use Rattle.profile.proofs.Lengths.{bounds-two, most-room}
 
 -- ---- demand 3, over the rules
 
-pub demand-3 : (e : List Profile) → sound e ≡ true → Demand3 (ruleSpelling e)
-demand-3 e ok =
-    demand-3-of (ruleSpelling e)
-    (record {
-      some = λ s a. (fieldsOf e s, (a, refl));
-      accepted = λ s f c. c .0;
-      one = λ s f g c d. sym (c .1) ∙ d .1;
-      back = λ s f c. subst (λ (g : FieldSet). Permitted e g × (formatted e g ≡ s)) (c .1) (accepted e ok s (c .0));
-      carried = λ f s p q. subst (λ (u : List ℕ). (readerNumber e u ≡ 0) × (fieldsOf e u ≡ f)) q (written e ok f p);
-      writes = λ f p. (formatted e f, refl);
-      one-string = λ f s u p q r. sym q ∙ r;
-    })
+inverse : (e : List Profile) → sound e ≡ true → Inverse (profileRules e)
+inverse e ok = record { accepted = accepted e ok; written = written e ok }
+
+pub demand-3 : (e : List Profile) → sound e ≡ true → Demand3 (ruleSpelling (profileRules e))
+demand-3 e ok = demand-3-rules (profileRules e) (inverse e ok)
 
 -- ---- outcomes
 
@@ -54,105 +48,35 @@ read-kind : (e : List Profile) (ok : sound e ≡ true) (f : FieldSet) → Permit
 unfolding fieldPieces
 read-kind e ok f h = ap (λ (p : Pieces). record { number = 0; kind = kindOf (p .salt) (p .output); fields = f .numbers }) (pieces-of e ok f h)
 
--- an accepted string carries its fields
-carries : (e : List Profile) (s : List ℕ) → readerNumber e s ≡ 0 → Carries e s (fieldsOf e s)
-unfolding decoded
-carries e s z =
-    record {
-      fields = reading-fields e s z;
-      strings = λ c buffer at l. after-done (readerNumber e s) buffer at (chosen c (fieldsOf e s)) z l;
-    }
-
-pub entries-agree : (e : List Profile) → sound e ≡ true → EntriesAgree e
-unfolding writing reading
-entries-agree e ok =
-    record {
-      writes = λ f h buffer at l. after-done (writerNumber e f) buffer at (formatted e f) (not-refused e f h) l;
-      writes-only = λ f b buffer at z.
-          let q = after-zero (writerNumber e f) buffer at (formatted e f) z in
-          (permitted e f (q .0) b, q .1);
-      reads = λ f h.
-          let w = written e ok f h in
-          rw (w .0, w .1) (read-kind e ok f h);
-      carries = λ f h.
-          let w = written e ok f h in
-          subst (Carries e (formatted e f)) (w .1) (carries e (formatted e f) (w .0));
-    }
-
--- ---- demand 3, of the outcomes
-
-zero : (e : List Profile) (s : List ℕ) → reading e s .number ≡ 0 → readerNumber e s ≡ 0
-zero e s z = sym (reading-number e s) ∙ z
-
-module _ (e : List Profile) (s : List ℕ) (f : FieldSet) (h : Carries e s f) where
-  -- the byte-string entry answers 0 where there is room
-  carrying : readerNumber e s ≡ 0
-  unfolding decoded
-  carrying =
-      let x = f .keyid in
-      after-zero (readerNumber e s) x 0 (fieldsOf e s .keyid) (ap (λ (o : Outcome). o .number) (h .strings Keyid x 0 (omega arith))) .0
-
-  -- each byte string, decoded into a buffer with room for both
-  same-bytes : (c : ByteString) → chosen c (fieldsOf e s) ≡ chosen c f
-  unfolding decoded
-  same-bytes c =
-      let x = chosen c (fieldsOf e s) in
-      let y = chosen c f in
-      let buffer = x ++ y in
-      let l = length-append x y in
-      over-same buffer 0 x y (omega arith) (sym (after-done (readerNumber e s) buffer 0 x carrying (omega arith)) ∙ h .strings c buffer 0 (omega arith))
-
-  same-carried : fieldsOf e s ≡ f
-  same-carried =
-      let n = sym (reading-fields e s carrying) ∙ h .fields in
-      let keyid = same-bytes Keyid in
-      let «data» = same-bytes Data in
-      let salt = same-bytes Salt in
-      let output = same-bytes Output in
-      λ i. record { numbers = n i; keyid = keyid i; «data» = «data» i; salt = salt i; output = output i }
-
--- a buffer with the room
-abbrev wide : List ℕ
-wide = replicate longestPermitted 0
-
+-- what the entries give is what the rules say
 module _ (e : List Profile) (ok : sound e ≡ true) (short : (f : FieldSet) → Permitted e f → length (formatted e f) ≤ longestPermitted) where
-  agree : EntriesAgree e
-  agree = entries-agree e ok
-
-  -- a call with the room writes permitted fields to their string
-  calls : (f : FieldSet) → Permitted e f → (buffer : List ℕ) (at : ℕ) → at + longestPermitted ≤ length buffer → WrittenAt e f (formatted e f) buffer at
-  calls f p buffer at r = let l = short f p in agree .writes f p buffer at (omega arith)
-
-  wrote : (f : FieldSet) (s : List ℕ) → Permitted e f → WrittenTo e f s → formatted e f ≡ s
-  wrote f s p w =
-      let r = w .has-room in
-      over-same (w .buffer) (w .place) (formatted e f) s (omega arith) (sym (calls f p (w .buffer) (w .place) r) ∙ w .written)
-
-  written-wide : (f : FieldSet) (s : List ℕ) → formatted e f ≡ s → Permitted e f → WrittenTo e f s
-  written-wide f s q p =
-      record { buffer = wide; place = 0; has-room = omega arith; written = subst (λ (u : List ℕ). WrittenAt e f u wide 0) q (calls f p wide 0 (omega arith)) }
-
-  back : (s : List ℕ) (f : FieldSet) → Carries e s f → Permitted e f × WrittenTo e f s
-  back s f c =
-      let a = accepted e ok s (carrying e s f c) in
-      let p = subst (Permitted e) (same-carried e s f c) (a .0) in
-      (p, written-wide f s (ap (formatted e) (sym (same-carried e s f c)) ∙ a .1) p)
-
-  pub entries-demand-3 : EntriesDemand3 e
-  entries-demand-3 =
+  follows : Follows (profileRules e) (profileEntries e) (writerNumber e)
+  unfolding decoded writing
+  follows =
       record {
-        demand-3 =
-            demand-3-of (entrySpelling e)
-            (record {
-              some = λ s z. (fieldsOf e s, carries e s (zero e s z));
-              accepted = λ s f c. reading-number e s ∙ carrying e s f c;
-              one = λ s f g c d. sym (same-carried e s f c) ∙ same-carried e s g d;
-              back = back;
-              carried = λ f s p w. subst (λ (u : List ℕ). Carries e u f) (wrote f s p w) (agree .carries f p);
-              writes = λ f p. (formatted e f, written-wide f (formatted e f) refl p);
-              one-string = λ f s u p v w. sym (wrote f s p v) ∙ wrote f u p w;
-            });
-        every-call = λ f s p w buffer at r. subst (λ (u : List ℕ). WrittenAt e f u buffer at) (wrote f s p w) (calls f p buffer at r);
+        reading-number = reading-number e;
+        reading-fields = reading-fields e;
+        decoded-is = λ c s buffer at. refl;
+        writing-is = λ f buffer at. refl;
+        not-refused = not-refused e;
+        short = short;
+      }
+
+  pub entries-demand-3 : EntriesDemand3 (profileEntries e) (Permitted e)
+  entries-demand-3 = demand-3-entries (profileRules e) (profileEntries e) (writerNumber e) follows (inverse e ok)
+
+  pub entries-agree : EntriesAgree e
+  unfolding writing reading
+  entries-agree =
+      record {
+        writes = writes-own (profileRules e) (profileEntries e) (writerNumber e) follows;
+        writes-only = λ f b buffer at z.
+            let q = after-zero (writerNumber e f) buffer at (formatted e f) z in
+            (permitted e f (q .0) b, q .1);
+        reads = λ f h.
+            let w = written e ok f h in
+            rw (w .0, w .1) (read-kind e ok f h);
+        carries = carries-written (profileRules e) (profileEntries e) (writerNumber e) follows (inverse e ok);
       }
 
 -- ---- edition two: lengths, agreement, lanes
@@ -167,7 +91,7 @@ lengths =
     }
 
 pub entries-agree-two : EntriesAgree editionTwo
-entries-agree-two = entries-agree editionTwo edition-two-sound
+entries-agree-two = entries-agree editionTwo edition-two-sound (lengths .any-most)
 
 -- an id up to 3 has at least one lane
 laned : ℕ → Profile → Bool
@@ -188,7 +112,7 @@ pub lanes : Lanes
 lanes =
     record {
       lane = λ s z k.
-          let a = zero editionTwo s z in
+          let a = sym (reading-number editionTwo s) ∙ z in
           let h = accepted editionTwo edition-two-sound s a .0 in
           let q = reading-fields editionTwo s a in
           rw q (one-lane (fieldsOf editionTwo s) h (rw q at k), ltb-false _ _ (h .column .lanes));

@@ -15,7 +15,7 @@ use Rattle.profile.specs.Entries.{writing, shortWriting}
 use Rattle.profile.specs.Sound.{defaultsSound}
 use Rattle.profile.specs.declared.fields.NumberFields.{NumberFields}
 use Rattle.profile.proofs.SoundLaws.{defaults-at, edition-two-defaults}
-use Rattle.profile.proofs.Demand3.{permitted}
+use Rattle.profile.proofs.Allows.{permitted}
 
 module _ (e : List Profile) (ok : defaultsSound e ≡ true) (k : ℕ) (salt output : List ℕ) where
   short-number : shortWriterNumber e k salt output ≡ writerNumber e (shortFields e k salt output)

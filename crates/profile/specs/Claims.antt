@@ -1,5 +1,5 @@
 -- The promises: the record `Promises`, at the end, says what is proved of document 01's table, and proofs/Promises.antt has its one value. Its
--- parts stand above it, over any edition where they can be; `Demand3` stands in specs/Spelling.antt.
+-- parts stand above it, over any edition where they can be; `Demand3` and `EntriesDemand3` stand in specs/Spelling.antt.
 -- Assumes nothing.
 use Prim.Native.Nat.{ℕ, _+_, _*_, _≤_}
 use Prim.Native.String.{String}
@@ -18,7 +18,7 @@ use Rattle.profile.specs.Fields.{FieldSet, fieldSet, chosen, writeBytes}
 use Rattle.profile.specs.Reader.{readerNumber, fieldsOf}
 use Rattle.profile.specs.Writer.{OfBytes, Permitted, formatted, shortFields, shortWriterNumber}
 use Rattle.profile.specs.Entries.{refusedReading, reading, kindOf, algorithmVersion, decoded, writing, shortWriting}
-use Rattle.profile.specs.Spelling.{Spelling, Demand3}
+use Rattle.profile.specs.Spelling.{Demand3, Rules, ruleSpelling, Entries, WrittenAt, Carries, EntriesDemand3}
 use Rattle.profile.specs.Strings.{boundaryStrings, extremes}
 use Rattle.profile.specs.declared.fields.ByteString.{ByteString}
 
@@ -62,44 +62,13 @@ pub record Demand1 (e : List Profile) : Type 0 where
 
 -- ---- demand 3
 
--- the rules of an edition as a spelling
-abbrev pub ruleSpelling : List Profile → Spelling
-ruleSpelling e =
-    record {
-      Accepted = λ (s : List ℕ). readerNumber e s ≡ 0;
-      Carries = λ (s : List ℕ) (f : FieldSet). (readerNumber e s ≡ 0) × (fieldsOf e s ≡ f);
-      Permitted = Permitted e;
-      WrittenTo = λ (f : FieldSet) (s : List ℕ). formatted e f ≡ s;
-    }
+-- the rules of an edition; and its profile reader, byte-string entry and writer. By `EntriesAgree` a call of the writer with less room than
+-- demand 3 names that answers 0 writes the same string
+abbrev pub profileRules : List Profile → Rules
+profileRules e = record { number = readerNumber e; fields = fieldsOf e; Permitted = Permitted e; formatted = formatted e }
 
--- fields are written to a string (01) by a call of the writer: it answers 0 and the bytes it wrote are that string
-abbrev pub WrittenAt : List Profile → FieldSet → List ℕ → List ℕ → ℕ → Type 0
-WrittenAt e f s buffer at = writing e f buffer at ≡ outcome 0 (length s) (over buffer at s)
-
--- by a call with at least 265 bytes of room, as demand 3 has it; 'its room counts from its place'. By `EntriesAgree` a call with less room that
--- answers 0 writes the same string
-pub record WrittenTo (e : List Profile) (f : FieldSet) (s : List ℕ) : Type 0 where
-  pub buffer : List ℕ
-  pub place : ℕ
-  pub has-room : place + longestPermitted ≤ length buffer
-  pub written : WrittenAt e f s buffer place
-
--- a string carries fields (01): the profile reader gives the number fields, the byte-string entry each byte string where it fits
-pub record Carries (e : List Profile) (s : List ℕ) (f : FieldSet) : Type 0 where
-  pub fields : reading e s .fields ≡ f .numbers
-  pub strings : (c : ByteString) (buffer : List ℕ) (at : ℕ) → at + length (chosen c f) ≤ length buffer
-      → decoded e c s buffer at ≡ outcome 0 (length (chosen c f)) (over buffer at (chosen c f))
-
--- the profile reader, the byte-string entry and the writer as a spelling, by the outcomes that their contracts name
-abbrev pub entrySpelling : List Profile → Spelling
-entrySpelling e =
-    record { Accepted = λ (s : List ℕ). reading e s .number ≡ 0; Carries = Carries e; Permitted = Permitted e; WrittenTo = WrittenTo e }
-
-pub record EntriesDemand3 (e : List Profile) : Type 0 where
-  pub demand-3 : Demand3 (entrySpelling e)
-  -- what one call with the room writes, every such call does
-  pub every-call : (f : FieldSet) (s : List ℕ) → Permitted e f → WrittenTo e f s
-      → (buffer : List ℕ) (at : ℕ) → at + longestPermitted ≤ length buffer → WrittenAt e f s buffer at
+abbrev pub profileEntries : List Profile → Entries
+profileEntries e = record { reading = reading e; decoded = decoded e; writing = writing e }
 
 -- ---- the entries among each other
 
@@ -107,13 +76,13 @@ pub record EntriesDemand3 (e : List Profile) : Type 0 where
 pub record EntriesAgree (e : List Profile) : Type 0 where
   -- the writer answers 0 exactly for permitted fields whose string fits, and what it wrote is that string
   pub writes : (f : FieldSet) → Permitted e f → (buffer : List ℕ) (at : ℕ) → at + length (formatted e f) ≤ length buffer
-      → WrittenAt e f (formatted e f) buffer at
+      → WrittenAt (profileEntries e) f (formatted e f) buffer at
   pub writes-only : (f : FieldSet) → OfBytes f → (buffer : List ℕ) (at : ℕ) → writing e f buffer at .number ≡ 0
       → Permitted e f × (at + length (formatted e f) ≤ length buffer)
   -- the reader and the byte-string entry give those nine fields back
   pub reads : (f : FieldSet) → Permitted e f
       → reading e (formatted e f) ≡ record { number = 0; kind = kindOf (writeBytes (f .salt)) (writeBytes (f .output)); fields = f .numbers }
-  pub carries : (f : FieldSet) → Permitted e f → Carries e (formatted e f) f
+  pub carries : (f : FieldSet) → Permitted e f → Carries (profileEntries e) (formatted e f) f
 
 -- the short writer gives what the writer gives for its defaults, no keyid and no data; and where it writes, these are permitted
 pub record ShortAgrees (e : List Profile) : Type 0 where
@@ -164,8 +133,8 @@ pub record Examples : Type 0 where
 
 pub record Promises : Type 0 where
   pub demand-1 : Demand1 editionTwo
-  pub demand-3 : Demand3 (ruleSpelling editionTwo)
-  pub entries-demand-3 : EntriesDemand3 editionTwo
+  pub demand-3 : Demand3 (ruleSpelling (profileRules editionTwo))
+  pub entries-demand-3 : EntriesDemand3 (profileEntries editionTwo) (Permitted editionTwo)
   pub entries-agree : EntriesAgree editionTwo
   pub short-agrees : ShortAgrees editionTwo
   pub short-fields : ShortFields

@@ -1,12 +1,18 @@
 -- Demand 3, which document 01 names and does not repeat, stated once over a spelling: 'two different accepted strings never carry the same fields;
 -- two different permitted sets of fields are never written to the same string; a string is refused exactly when no permitted set of fields is
--- written to it; the fields of an accepted string are written back to exactly that string.'
+-- written to it; the fields of an accepted string are written back to exactly that string.' Then the two ways to have a spelling: by rules, and by
+-- the entries that read and write it.
 -- Assumes nothing.
-use Prim.Native.Nat.{ℕ}
+use Prim.Native.Nat.{ℕ, _+_, _≤_}
 use mathlib.Core.Path.{_≡_}
 use mathlib.Core.List.{List}
 use mathlib.Core.Logic.{_↔_}
-use Rattle.profile.specs.Fields.{FieldSet}
+use lib.ListN.{length}
+use Rattle.text.specs.Place.{Outcome, outcome, over}
+use Rattle.table.specs.Limits.{longestPermitted}
+use Rattle.profile.specs.Fields.{FieldSet, chosen}
+use Rattle.profile.specs.declared.fields.ByteString.{ByteString}
+use Rattle.profile.specs.declared.fields.Reading.{Reading}
 
 -- a way to write fields as texts: which texts are accepted, the fields that each carries, which fields are permitted, and the text that they
 -- are written to
@@ -24,3 +30,55 @@ pub record Demand3 (w : Spelling) : Type 0 where
   -- every accepted string, and no other, carries fields; and every permitted set of fields is written to a string
   pub carries : (s : List ℕ) → w .Accepted s ↔ ((f : FieldSet) × w .Carries s f)
   pub writes : (f : FieldSet) → w .Permitted f → (s : List ℕ) × w .WrittenTo f s
+
+-- ---- by rules
+
+-- the reader's number of a text, the fields that it carries where that is 0, the fields that are permitted, and the text that they are written to
+pub record Rules : Type 1 where
+  pub number : List ℕ → ℕ
+  pub fields : List ℕ → FieldSet
+  pub Permitted : FieldSet → Type 0
+  pub formatted : FieldSet → List ℕ
+
+abbrev pub ruleSpelling : Rules → Spelling
+ruleSpelling r =
+    record {
+      Accepted = λ (s : List ℕ). r .number s ≡ 0;
+      Carries = λ (s : List ℕ) (f : FieldSet). (r .number s ≡ 0) × (r .fields s ≡ f);
+      Permitted = r .Permitted;
+      WrittenTo = λ (f : FieldSet) (s : List ℕ). r .formatted f ≡ s;
+    }
+
+-- ---- by entries: a profile reader, a byte-string entry and a writer, by the outcomes that their contracts name
+
+pub record Entries : Type 0 where
+  pub reading : List ℕ → Reading
+  pub decoded : ByteString → List ℕ → List ℕ → ℕ → Outcome
+  pub writing : FieldSet → List ℕ → ℕ → Outcome
+
+-- fields are written to a string (01) by a call of the writer: it answers 0 and the bytes it wrote are that string
+abbrev pub WrittenAt : Entries → FieldSet → List ℕ → List ℕ → ℕ → Type 0
+WrittenAt n f s buffer at = n .writing f buffer at ≡ outcome 0 (length s) (over buffer at s)
+
+-- by a call with at least 265 bytes of room, as demand 3 has it; 'its room counts from its place'
+pub record WrittenTo (n : Entries) (f : FieldSet) (s : List ℕ) : Type 0 where
+  pub buffer : List ℕ
+  pub place : ℕ
+  pub has-room : place + longestPermitted ≤ length buffer
+  pub written : WrittenAt n f s buffer place
+
+-- a string carries fields (01): the profile reader gives the number fields, the byte-string entry each byte string where it fits
+pub record Carries (n : Entries) (s : List ℕ) (f : FieldSet) : Type 0 where
+  pub fields : n .reading s .fields ≡ f .numbers
+  pub strings : (c : ByteString) (buffer : List ℕ) (at : ℕ) → at + length (chosen c f) ≤ length buffer
+      → n .decoded c s buffer at ≡ outcome 0 (length (chosen c f)) (over buffer at (chosen c f))
+
+abbrev pub entrySpelling : Entries → (FieldSet → Type 0) → Spelling
+entrySpelling n Permitted =
+    record { Accepted = λ (s : List ℕ). n .reading s .number ≡ 0; Carries = Carries n; Permitted = Permitted; WrittenTo = WrittenTo n }
+
+pub record EntriesDemand3 (n : Entries) (Permitted : FieldSet → Type 0) : Type 0 where
+  pub demand-3 : Demand3 (entrySpelling n Permitted)
+  -- what one call with the room writes, every such call does
+  pub every-call : (f : FieldSet) (s : List ℕ) → Permitted f → WrittenTo n f s
+      → (buffer : List ℕ) (at : ℕ) → at + longestPermitted ≤ length buffer → WrittenAt n f s buffer at

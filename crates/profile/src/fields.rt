@@ -1,5 +1,7 @@
 // The fields of a string. The four byte strings travel beside the number fields.
 use table::version::Version;
+ghost use mathlib.Core.Path.{_≡_};
+ghost use Rattle.profile.specs.Entries.{refusedReading};
 
 // The number fields: id, version, m, t and p. id is 1 to 5 in the order of the profiles' list; p is a u32, so that what is too large is refused
 // and not wrapped.
@@ -25,6 +27,25 @@ pub struct Reading {
     pub number: u8,
     pub kind: u8,
     pub fields: NumberFields,
+}
+
+impl Reading {
+    // The answer to a string that is refused.
+    pub fn refused(number: u8) -> Reading
+        ensures { λ r. ⌜ r ≡ refusedReading number ⌝ }
+    {
+        Reading {
+            number,
+            kind: 0,
+            fields: NumberFields {
+                id: 0,
+                version: Version::Absent,
+                m: 0,
+                t: 0,
+                p: 0,
+            },
+        }
+    }
 }
 
 // Which algorithm version a string means: 0 and the version, or the refusal's number and 0.

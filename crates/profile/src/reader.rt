@@ -32,24 +32,8 @@ ghost use Rattle.grammar.specs.Rules.{isItem, grammarNumber};
 ghost use Rattle.grammar.specs.Layout.{placesOf};
 ghost use Rattle.table.specs.Limits.{editionTwo};
 ghost use Rattle.profile.specs.Fields.{readVersion};
-ghost use Rattle.profile.specs.Entries.{refusedReading, kindOf, versionOr, algorithmVersionOf, reading, algorithmVersion, decoded};
+ghost use Rattle.profile.specs.Entries.{kindOf, versionOr, algorithmVersionOf, reading, algorithmVersion, decoded};
 ghost use Rattle.profile.specs.ReaderSteps.{spanText, ValuesAre, chosenText, ParsedIs};
-
-fn refused(number: u8) -> Reading
-    ensures { λ r. ⌜ r ≡ refusedReading number ⌝ }
-{
-    Reading {
-        number,
-        kind: 0,
-        fields: NumberFields {
-            id: 0,
-            version: Version::Absent,
-            m: 0,
-            t: 0,
-            p: 0,
-        },
-    }
-}
 
 // The version of a version piece that keeps its rule, or absent.
 fn version_in(s: &[u8], span: Span) -> Version
@@ -116,7 +100,7 @@ fn read_pieces(s: &[u8], places: Places) -> ParsedString
     let j = judge(column_of(id), version, params, values, s, salt, output);
     if j.number != 0 {
         return ParsedString {
-            reading: refused(j.number),
+            reading: Reading::refused(j.number),
             places,
             values,
         };
@@ -147,7 +131,7 @@ fn parse(s: &[u8]) -> ParsedString
     let number = layout.number;
     if number != 0 {
         return ParsedString {
-            reading: refused(number),
+            reading: Reading::refused(number),
             places,
             values: no_values(),
         };

@@ -34,6 +34,10 @@ module _ {A : Type 0} where
   length-filled [] n = absurd (n refl)
   length-filled (x ∷ l) n = refl
 
+  pub filled-length : (l : List A) → empty l ≡ false → 0 < length l
+  filled-length [] e = absurd (true≢false e)
+  filled-length (x ∷ l) e = omega arith
+
 -- ---- two texts, and tests on every element
 
 pub same-eq : (s u : List ℕ) → same s u ≡ true → s ≡ u

@@ -7,11 +7,11 @@ use mathlib.Core.Path.{_≡_, refl, ap, ap₂, sym, _∙_}
 use native.Mathlib.Numerals.{add-one}
 use native.Mathlib.Omega.{arith}
 use lib.Dec.{eqb}
-use lib.ListN.{length, drop, getD, drop-of-length-le}
+use lib.ListN.{length, take, drop, getD, drop-of-length-le}
 use lib.Seq.{drop-cons, drop-at}
 use borrow.Author.Tests.{eqb-true, eq-eqb, ne-eqb}
 use mathlib.Core.Option.{Option}
-use Rattle.text.specs.Text.{has, find, startsWith}
+use Rattle.text.specs.Text.{has, same, find, startsWith}
 use Rattle.text.proofs.Tests.{both, and-true, neither, is-false}
 
 -- ---- a text that begins with another
@@ -24,6 +24,12 @@ starts-is (c ∷ l) (d ∷ t) e = let p = both (eqb d c) (startsWith l t) e in a
 pub starts-own : (l t : List ℕ) → startsWith l (l ++ t) ≡ true
 starts-own [] t = refl
 starts-own (c ∷ l) t = and-true (eq-eqb c c refl) (starts-own l t)
+
+-- as many bytes of it are the same
+pub starts-take : (l t : List ℕ) → startsWith l t ≡ same (take (length l) t) l
+starts-take [] t = refl
+starts-take (c ∷ l) [] = refl
+starts-take (c ∷ l) (d ∷ t) = ap (λ (b : Bool). eqb d c && b) (starts-take l t)
 
 -- no text begins with one that has a byte which it has not
 pub starts-without : (d : ℕ) (l t : List ℕ) → has d l ≡ true → has d t ≡ false → startsWith l t ≡ false
@@ -45,7 +51,6 @@ starts-short [] t h = absurd (omega arith)
 starts-short (c ∷ l) [] h = refl
 starts-short (c ∷ l) (d ∷ t) h = rw (starts-short l t (omega arith)) (and-false (eqb d c))
 
--- what begins with a text is at least as long
 -- what doesn't begin with a byte doesn't begin with more
 pub starts-first : (c : ℕ) (l t : List ℕ) → startsWith (c ∷ []) t ≡ false → startsWith (c ∷ l) t ≡ false
 starts-first c l [] e = refl
@@ -55,6 +60,7 @@ starts-first c l (d ∷ t) e = go (eqb d c) e
     go true q = absurd (true≢false q)
     go false q = refl
 
+-- what begins with a text is at least as long
 pub starts-text : (l t : List ℕ) → startsWith l t ≡ true → length l ≤ length t
 starts-text [] t e = omega arith
 starts-text (c ∷ l) [] e = let z : _≡_ {A = Bool} false true = e in let n : _≡_ {A = ℕ} 0 1 = cc in absurd (omega arith)

@@ -156,6 +156,16 @@ abbrev pub andThen : {A B : Type 0} → Option A → (A → Option B) → Option
 andThen none f = none
 andThen (some x) f = f x
 
+-- the first of two that is there
+abbrev pub orElse : {A : Type 0} → Option A → Option A → Option A
+orElse none o = o
+orElse (some x) o = some x
+
+-- of what is there, or what stands for it
+abbrev pub maybe : {A B : Type 0} → B → (A → B) → Option A → B
+maybe b f none = b
+maybe b f (some x) = f x
+
 -- present, and fails the test
 abbrev pub violates : {A : Type 0} → (A → Bool) → Option A → Bool
 violates ok none = false

@@ -1,11 +1,10 @@
 -- `phc::reading::decode_one` meets its contract. Assumes nothing.
-use mathlib.Core.Path.{_∙_}
 use native.Mathlib.Omega.{arith}
 use borrow.Author.Needs.{needs}
 use denote.Ref.{now}
 use Rattle.table.specs.Limits.{editionTwo}
 use Rattle.profile.specs.Entries.{decoded}
-use Rattle.phc.proofs.CodeLaws.{left-is, coded-is}
+use Rattle.phc.proofs.CodeLaws.{answered}
 use Rattle.phc.proofs.SizeLaws.{decoded-small}
 use Rattle.phc.proofs.reading.decode_one.Statement.{statement}
 use Rattle.phc.proofs.reading.decode_one.Tie as tie
@@ -23,7 +22,7 @@ returns c =
     let a = b .before .before .before .before .args in
     let o = decoded editionTwo (a .choice) (now (a .s)) (now (a .buf)) 0 in
     let r = b .byte-string .result in
-    (c .code-of .ensures ∙ coded-is (r .number) (r .count .0) _ o (b .byte-string .ensures), left-is (r .number) (r .count .0) _ o (b .byte-string .ensures))
+    answered (r .number) (r .count .0) _ o (b .byte-string .ensures) _ (c .code-of .ensures)
 
 pub decode-one-spec : {M : Type 1} → statement M
 decode-one-spec = tie.close (tie.spec (λ c κs. search needs) code-of-requires (λ c. search needs) returns)

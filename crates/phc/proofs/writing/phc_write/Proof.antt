@@ -5,11 +5,11 @@ use borrow.Author.Needs.{needs}
 use denote.Ref.{now}
 use Rattle.text.specs.Place.{outcome}
 use Rattle.table.specs.Limits.{editionTwo}
-use Rattle.table.specs.declared.version.Version.{Version}
 use Rattle.profile.specs.Fields.{FieldSet, fieldSet}
 use Rattle.profile.specs.Entries.{writing}
+use Rattle.profile.specs.declared.fields.NumberFields.{NumberFields}
 use Rattle.phc.specs.Writing.{handed}
-use Rattle.phc.proofs.CodeLaws.{left-is, coded-is}
+use Rattle.phc.proofs.CodeLaws.{answered}
 use Rattle.phc.proofs.SizeLaws.{written-small}
 use Rattle.phc.proofs.writing.phc_write.Statement.{statement}
 use Rattle.phc.proofs.writing.phc_write.Tie as tie
@@ -27,8 +27,8 @@ said : (c : tie.After-write)
 said c =
     let a = start c .args in
     c .write .ensures
-    ∙ ap (λ (v : Version). writing editionTwo (fieldSet (record { id = a .id; version = v; m = a .m; t = a .t; p = a .p }) (now (a .keyid)) (now (a .«data»)) (now (a .salt)) (now (a .output))) (now (a .buf)) 0)
-    (c .before .before .version-field .ensures)
+    ∙ ap (λ (n : NumberFields). writing editionTwo (fieldSet n (now (a .keyid)) (now (a .«data»)) (now (a .salt)) (now (a .output))) (now (a .buf)) 0)
+    (c .before .before .handed-fields .ensures)
 
 code-of-requires : tie.Need-code-of-requires
 code-of-requires c κs z =
@@ -41,7 +41,7 @@ returns c =
     let w = c .before .before .before .before in
     let o = writing editionTwo (fields (start w)) (now (start w .args .buf)) 0 in
     let r = w .write .result in
-    (c .code-of .ensures ∙ coded-is (r .number) (r .count .0) _ o (said w), left-is (r .number) (r .count .0) _ o (said w))
+    answered (r .number) (r .count .0) _ o (said w) _ (c .code-of .ensures)
 
 pub phc-write-spec : {M : Type 1} → statement M
 phc-write-spec = tie.close (tie.spec (λ c κs. search needs) (λ c κs. search needs) code-of-requires (λ c. search needs) returns)

@@ -1,11 +1,10 @@
 -- `phc::writing::phc_write_short` meets its contract. Assumes nothing.
-use mathlib.Core.Path.{_∙_}
 use native.Mathlib.Omega.{arith}
 use borrow.Author.Needs.{needs}
 use denote.Ref.{now}
 use Rattle.table.specs.Limits.{editionTwo}
 use Rattle.profile.specs.Entries.{shortWriting}
-use Rattle.phc.proofs.CodeLaws.{left-is, coded-is}
+use Rattle.phc.proofs.CodeLaws.{answered}
 use Rattle.phc.proofs.SizeLaws.{short-small}
 use Rattle.phc.proofs.writing.phc_write_short.Statement.{statement}
 use Rattle.phc.proofs.writing.phc_write_short.Tie as tie
@@ -26,7 +25,7 @@ returns c =
     let a = start w .args in
     let o = shortWriting editionTwo (a .id) (now (a .salt)) (now (a .output)) (now (a .buf)) 0 in
     let r = w .write-short .result in
-    (c .code-of .ensures ∙ coded-is (r .number) (r .count .0) _ o (w .write-short .ensures), left-is (r .number) (r .count .0) _ o (w .write-short .ensures))
+    answered (r .number) (r .count .0) _ o (w .write-short .ensures) _ (c .code-of .ensures)
 
 pub phc-write-short-spec : {M : Type 1} → statement M
 phc-write-short-spec = tie.close (tie.spec (λ c κs. search needs) code-of-requires (λ c. search needs) returns)

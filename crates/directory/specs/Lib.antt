@@ -1,0 +1,5 @@
+pub mod Braced
+pub mod Entries
+pub mod Examples
+pub mod Claims
+pub mod BracedSteps
