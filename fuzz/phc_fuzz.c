@@ -1,6 +1,6 @@
 /* A libFuzzer target for the C interface: what its functions say of the same bytes must agree (README.md lists the facts).
  *
- * An input ends in a tail: how much room is lent, how it is lent, and whether the bytes before it are a string to read or fields to write.
+ * An input ends in a tail: how much room is lent, how it is lent, and whether the bytes before it are a text to read or fields to write.
  */
 #include "phc.h"
 
@@ -79,6 +79,35 @@ static void check_answer(const struct lent *lent, uint64_t answer, uint64_t numb
     check_holds(lent, bytes, number != 0 ? 0 : count);
 }
 
+/* The two spellings. */
+
+struct spelling {
+    __typeof__(&phc_read_all) read_all;
+    __typeof__(&phc_write) write;
+    /* Enough for every text. */
+    size_t room;
+};
+
+static const struct spelling dollar = {phc_read_all, phc_write, PHC_ROOM};
+static const struct spelling directory = {phc_directory_read_all, phc_directory_write, PHC_DIRECTORY_ROOM};
+
+/* `$pbkdf2s2` */
+#define ID_ALONE 9
+
+/* Whether a text begins with the id of pbkdf2 between these two marks, and goes on after them. */
+static int is_marked(const uint8_t *text, size_t len, const char marks[2]) {
+    return len > ID_ALONE + 1 && text[0] == marks[0] && memcmp(text + 1, "pbkdf2s", 7) == 0 && (text[8] == '2' || text[8] == '3') &&
+           text[ID_ALONE] == marks[1];
+}
+
+/* A marked text in the other spelling; it stands until the next call. */
+static const uint8_t *marked(const uint8_t *text, size_t len, const char marks[2]) {
+    static uint8_t other[AREA];
+    memcpy(other, text, len);
+    other[0] = marks[0], other[ID_ALONE] = marks[1];
+    return other;
+}
+
 /* Fields. */
 
 struct fields {
@@ -119,13 +148,32 @@ static size_t join(const struct fields *f, uint8_t bytes[PHC_BYTES]) {
     return total;
 }
 
-static uint64_t write_fields(const struct fields *f, const struct lent *buf) {
+static uint64_t write_fields(const struct spelling *spelling, const struct fields *f, const struct lent *buf) {
     struct lent part[4];
     for (int i = 0; i < 4; i++) part[i] = lend_bytes(KEYID + i, f->bytes[i], f->count[i]);
-    uint64_t answer = phc_write(f->id, f->has_version, f->version, f->m, f->t, f->p, part[0].ptr, part[0].len, part[1].ptr, part[1].len,
-                                part[2].ptr, part[2].len, part[3].ptr, part[3].len, buf->ptr, buf->len);
+    uint64_t answer = spelling->write(f->id, f->has_version, f->version, f->m, f->t, f->p, part[0].ptr, part[0].len, part[1].ptr, part[1].len,
+                                      part[2].ptr, part[2].len, part[3].ptr, part[3].len, buf->ptr, buf->len);
     for (int i = 0; i < 4; i++) check_holds(&part[i], f->bytes[i], f->count[i]);
     return answer;
+}
+
+/* Writes fields whose number or text is known. */
+static void check_write(const struct spelling *spelling, const struct fields *f, size_t room, uint64_t number, const uint8_t *text, size_t len) {
+    struct lent buf = lend(WRITTEN, room);
+    check_answer(&buf, write_fields(spelling, f, &buf), number, text, len, 100 * len);
+}
+
+/* What the directory's writer says of fields, from what phc_write said of them. */
+static void check_directory_write(const struct fields *f, uint64_t number, const uint8_t *string, size_t len) {
+    /* The id alone is refused before any want of room. */
+    if ((f->id != 4 && f->id != 5) || (number == 0 && len == ID_ALONE)) number = 24;
+    const uint8_t *text = NULL;
+    if (number == 0) {
+        CHECK(is_marked(string, len, "$$") && len <= PHC_DIRECTORY_ROOM);
+        text = marked(string, len, "{}");
+    }
+    check_write(&directory, f, PHC_DIRECTORY_ROOM, number, text, len);
+    check_write(&directory, f, tail.written, number, text, len);
 }
 
 /* The short writer writes what the writer does for its defaults. */
@@ -143,7 +191,7 @@ static void check_write_short(const struct fields *f, size_t room) {
     memcpy(written, buf.slice, room);
     check_holds(&buf, written, answer < 100 ? 0 : answer / 100);
     struct lent full = lend(WRITTEN, room);
-    CHECK(write_fields(&g, &full) == answer);
+    CHECK(write_fields(&dollar, &g, &full) == answer);
     check_holds(&full, written, answer < 100 ? 0 : answer / 100);
 }
 
@@ -160,16 +208,30 @@ static void check_read(const struct lent *s, size_t room, uint64_t number, const
     check_answer(&record, phc_read(s->ptr, s->len, record.ptr, record.len), number, expected, PHC_RECORD, 0);
 }
 
-static void check_read_all(const struct lent *s, size_t record_room, size_t buffer_room, uint64_t number, const struct fields *f) {
+static void check_read_all(const struct spelling *spelling, const struct lent *s, size_t record_room, size_t buffer_room, uint64_t number,
+                           const struct fields *f) {
     uint8_t expected[PHC_RECORD_ALL], bytes[PHC_BYTES];
     record_of(f, expected);
     size_t total = join(f, bytes);
     struct lent record = lend(RECORD, record_room), buf = lend(BUFFER, buffer_room);
-    uint64_t answer = phc_read_all(s->ptr, s->len, record.ptr, record.len, buf.ptr, buf.len);
+    uint64_t answer = spelling->read_all(s->ptr, s->len, record.ptr, record.len, buf.ptr, buf.len);
     if (number == 0 && (record_room < PHC_RECORD_ALL || buffer_room < total)) number = 17;
     CHECK(answer == number);
     check_holds(&record, expected, number != 0 ? 0 : PHC_RECORD_ALL);
     check_holds(&buf, bytes, number != 0 ? 0 : total);
+}
+
+/* Reads a text whose number and fields are known, and writes it back to exactly it, with enough room and with the input's. */
+static void check_text(const struct spelling *spelling, const uint8_t *bytes, size_t len, uint64_t number, const struct fields *f) {
+    struct lent s = lend_bytes(STRING, bytes, len);
+    check_read_all(spelling, &s, PHC_RECORD_ALL, PHC_BYTES, number, f);
+    check_read_all(spelling, &s, tail.record, tail.buffer, number, f);
+    check_holds(&s, bytes, len);
+    if (number == 0) {
+        CHECK(len <= spelling->room);
+        check_write(spelling, f, spelling->room, 0, bytes, len);
+        check_write(spelling, f, tail.written, 0, bytes, len);
+    }
 }
 
 /* The fields of an accepted string, as the interface promises them. */
@@ -187,7 +249,7 @@ static void check_fields(const struct fields *f) {
     }
 }
 
-/* Reads by every function, with enough room and with the input's; the refusal's number, or the fields. */
+/* Reads by every function for `$` strings, with enough room and with the input's; the refusal's number, or the fields. */
 static uint64_t read_string(const uint8_t *bytes, size_t len, struct fields *f) {
     memset(f, 0, sizeof *f);
     struct lent s = lend_bytes(STRING, bytes, len);
@@ -223,20 +285,28 @@ static uint64_t read_string(const uint8_t *bytes, size_t len, struct fields *f) 
 
     uint64_t version = f->id > 3 ? 0 : f->has_version ? f->version : 19;
     CHECK(phc_algorithm_version(s.ptr, s.len) == (number != 0 ? number : 100 * version));
-
-    check_read_all(&s, PHC_RECORD_ALL, PHC_BYTES, number, f);
-    check_read_all(&s, tail.record, tail.buffer, number, f);
-
-    if (number == 0) {
-        check_fields(f);
-        /* Back to exactly that string. */
-        CHECK(len <= PHC_ROOM);
-        struct lent buf = lend(WRITTEN, PHC_ROOM);
-        check_answer(&buf, write_fields(f, &buf), 0, bytes, len, 100 * len);
-        buf = lend(WRITTEN, tail.written);
-        check_answer(&buf, write_fields(f, &buf), 0, bytes, len, 100 * len);
-    }
     check_holds(&s, bytes, len);
+
+    if (number == 0) check_fields(f);
+    check_text(&dollar, bytes, len, number, f);
+    return number;
+}
+
+/* Reads in both spellings; the number and the fields are the `$` string's. A braced text is held to its string, and a string that has a
+ * braced text goes in as that too; the fields of an accepted one that has none are not written to one. */
+static uint64_t read_text(const uint8_t *bytes, size_t len, struct fields *f) {
+    uint64_t number = read_string(bytes, len, f), directory_number = 24;
+    struct fields g = {0};
+    if (is_marked(bytes, len, "{}")) {
+        CHECK(number == 1);
+        directory_number = read_string(marked(bytes, len, "$$"), len, &g);
+    }
+    check_text(&directory, bytes, len, directory_number, &g);
+    if (is_marked(bytes, len, "$$")) {
+        check_text(&directory, marked(bytes, len, "{}"), len, number, f);
+    } else if (number == 0) {
+        check_directory_write(f, 0, bytes, len);
+    }
     return number;
 }
 
@@ -259,7 +329,7 @@ static void write_input(const uint8_t *data, size_t size) {
     }
 
     struct lent buf = lend(WRITTEN, PHC_ROOM);
-    uint64_t answer = write_fields(&f, &buf);
+    uint64_t answer = write_fields(&dollar, &f, &buf);
     uint64_t number = answer < 100 ? answer : 0;
     uint8_t string[PHC_ROOM];
     size_t len = 0;
@@ -271,14 +341,14 @@ static void write_input(const uint8_t *data, size_t size) {
         memcpy(string, buf.slice, len);
     }
     check_holds(&buf, string, len);
-    buf = lend(WRITTEN, tail.written);
-    check_answer(&buf, write_fields(&f, &buf), number, string, len, 100 * len);
+    check_write(&dollar, &f, tail.written, number, string, len);
+    check_directory_write(&f, number, string, len);
     check_write_short(&f, PHC_ROOM);
     check_write_short(&f, tail.written);
 
     if (number == 0) {
         struct fields back;
-        CHECK(read_string(string, len, &back) == 0);
+        CHECK(read_text(string, len, &back) == 0);
         CHECK(back.id == f.id && back.has_version == f.has_version && back.m == f.m && back.t == f.t && back.p == f.p);
         CHECK(back.version == (f.has_version ? f.version : 0));
         for (int i = 0; i < 4; i++) CHECK(back.count[i] == f.count[i] && memcmp(back.bytes[i], f.bytes[i], f.count[i]) == 0);
@@ -318,7 +388,7 @@ int LLVMFuzzerTestOneInput(const uint8_t *data, size_t size) {
         write_input(data, size);
     } else {
         struct fields f;
-        read_string(data, size, &f);
+        read_text(data, size, &f);
     }
     return 0;
 }

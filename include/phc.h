@@ -16,7 +16,7 @@
 extern "C" {
 #endif
 
-/* Bytes enough for every string of these profiles, and for every braced text. */
+/* Bytes enough for every string of these profiles, and for every braced text that is written. */
 #define PHC_ROOM 265
 #define PHC_DIRECTORY_ROOM 171
 
@@ -80,13 +80,14 @@ uint64_t phc_write_short(uint8_t id, const uint8_t *salt, size_t salt_len, const
  * Both have the same length. A string that is the id alone has no braced text, and no other function takes one: to them it is 1. */
 
 /* Reads a braced text and decodes its byte strings: the record and the bytes that phc_read_all gives of its string.
- * Else 24 for a text without one of the two prefixes or with nothing after it, then the string's number, 1 to 15, then 17, and both are as
- * they were. */
+ * Else 24 for a text without one of the two prefixes or with nothing after it, then the string's number, 1, 3 to 7 or 9 to 15, then 17 where the
+ * record has fewer than 36 bytes or the byte strings don't fit the buffer, and both are as they were. 152 bytes are always enough for the
+ * buffer. */
 uint64_t phc_directory_read_all(const uint8_t *t, size_t t_len, uint8_t *record, size_t record_len, uint8_t *buf, size_t buf_len);
 
 /* Writes the braced text of the fields into the buffer from its start, as phc_write writes their string: a hundred times the count, or 24 for
  * an id other than 4 and 5, then 9, 11, 12, 14, 15, 16, then 24 for fields that are written as the id alone (t=20000 and nothing else),
- * then 17. has_version is as there, and any other than 0 and 1 is 9.
+ * then 17. has_version is as for phc_write, and any other than 0 and 1 is 9.
  * 171 bytes are always enough. It never gives 0.
  * The fields and bytes that phc_directory_read_all gave of a braced text are written back to exactly that text. */
 uint64_t phc_directory_write(uint8_t id, uint8_t has_version, uint32_t version, uint32_t m, uint32_t t, uint32_t p,

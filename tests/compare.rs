@@ -130,7 +130,7 @@ static DIRECTORY: Spelling = Spelling {
     writer: "phc_directory_write",
     write_entry: phc_directory_write,
     write: reference::directory_write,
-    longest: 171,
+    longest: PHC_DIRECTORY_ROOM,
     known: &KNOWN_BRACED,
 };
 

@@ -8,6 +8,7 @@
 #endif
 
 _Static_assert(PHC_ROOM == 265, "the longest string");
+_Static_assert(PHC_DIRECTORY_ROOM == 171, "the longest braced text");
 _Static_assert(PHC_RECORD == 20, "kind, id, flag, 0 and four numbers");
 _Static_assert(PHC_RECORD_ALL == PHC_RECORD + 16, "and four counts");
 _Static_assert(PHC_BYTES == 8 + 32 + 48 + 64, "keyid, data, salt and output");

@@ -2,6 +2,7 @@
 
 /// As in phc.h.
 pub const PHC_ROOM: usize = 265;
+pub const PHC_DIRECTORY_ROOM: usize = 171;
 pub const PHC_RECORD: usize = 20;
 pub const PHC_RECORD_ALL: usize = 36;
 pub const PHC_BYTES: usize = 152;

@@ -28,7 +28,7 @@ use text::units::Bytes;
 // Room for the longest byte string, an output of 64 bytes, from PLACE on.
 const ROOM: usize = 81;
 
-// The bytes of a byte string; none where it is absent or the text is refused. One that was put elsewhere shows as dots.
+// The bytes of a byte string; none where it is absent or the text is refused. One that was put elsewhere shows as `2e`.
 fn show_bytes(t: &[u8], choice: ByteString) {
     let mut buf = [b'.'; ROOM];
     let r = byte_string(t, choice, &mut buf, PLACE);

@@ -1,7 +1,7 @@
 -- Braced texts and `$` strings: each is the other with another prefix, so the two ways are inverse to each other and keep the length.
 -- Assumes nothing.
 use Prim.Native.Nat.{ℕ, _+_, _≤_, _<_}
-use mathlib.Core.Bool.{Bool, true, false, not, cond, _&&_, _||_, and-true, and-false, false≢true}
+use mathlib.Core.Bool.{Bool, true, false, not, cond, _||_, and-true, and-false, true≢false, false≢true}
 use mathlib.Core.List.{List, _++_, append-assoc}
 use mathlib.Core.Logic.{_⊎_, inl, inr}
 use mathlib.Core.Option.{Option, none, some}
@@ -9,13 +9,13 @@ use mathlib.Core.Path.{_≡_, refl, _∙_, ap}
 use native.Mathlib.Omega.{arith}
 use lib.ListN.{length, take, drop, set, length-append, length-drop, drop-of-length-le}
 use lib.Seq.{drop-append-seam}
-use Rattle.text.specs.Text.{text, same, empty, startsWith, orElse}
-use Rattle.text.proofs.Tests.{both, neither, is-false}
+use Rattle.text.specs.Text.{text, same, empty, startsWith, orElse, maybe}
+use Rattle.text.proofs.Tests.{both, is-false}
 use Rattle.text.proofs.Lists.{length-filled, filled-length}
 use Rattle.text.proofs.Starts.{starts-is, starts-own, starts-take}
 use Rattle.grammar.specs.Pieces.{OptionalText}
-use Rattle.directory.specs.Braced.{goesOnAfter, withPrefix, dollarString, bracedText, prefixLength}
-use Rattle.directory.specs.BracedSteps.{isBraced}
+use Rattle.directory.specs.Braced.{goesOnAfter, replacePrefix, dollarString, bracedText}
+use Rattle.directory.specs.BracedSteps.{prefixLength, isBraced}
 
 -- ---- one prefix
 
@@ -39,7 +39,7 @@ some-of {A} {x} {y} e = cc
 module _ (a b c d : List ℕ) where
   -- with the other prefix in place of its own
   abbrev either : List ℕ → OptionalText
-  either t = orElse (withPrefix a b t) (withPrefix c d t)
+  either t = orElse (replacePrefix a b t) (replacePrefix c d t)
 
   view : (t u : List ℕ) → either t ≡ some u → Differ a b t u ⊎ Differ c d t u
   view t u h = go (goesOnAfter a t) refl (goesOnAfter c t) refl h
@@ -51,10 +51,10 @@ module _ (a b c d : List ℕ) where
       go false p false q h = let z : _≡_ {A = ℕ} 0 1 = cc in absurd (omega arith)
 
   -- back again, where no text that has the second prefix has the first
-  back : ((r : List ℕ) → startsWith b (d ++ r) ≡ false) → (t u : List ℕ) → either t ≡ some u → orElse (withPrefix b a u) (withPrefix d c u) ≡ some t
+  back : ((r : List ℕ) → startsWith b (d ++ r) ≡ false) → (t u : List ℕ) → either t ≡ some u → orElse (replacePrefix b a u) (replacePrefix d c u) ≡ some t
   back apart t u h = go (view t u h)
     where
-      go : Differ a b t u ⊎ Differ c d t u → orElse (withPrefix b a u) (withPrefix d c u) ≡ some t
+      go : Differ a b t u ⊎ Differ c d t u → orElse (replacePrefix b a u) (replacePrefix d c u) ≡ some t
       go (inl w) = rw (w .right, w .left, starts-own b (w .rest), drop-append-seam b (w .rest), w .more)
       go (inr w) = rw (w .right, w .left, apart (w .rest), starts-own d (w .rest), drop-append-seam d (w .rest), w .more)
 
@@ -112,24 +112,35 @@ braced-marked = marked (text "$pbkdf2s2$") (text "{pbkdf2s2}") (text "$pbkdf2s3$
 -- ---- whether a text is braced
 
 pub braced-some : (t : List ℕ) → isBraced t ≡ true → (s : List ℕ) × (dollarString t ≡ some s)
-unfolding isBraced dollarString
-braced-some t h = go (goesOnAfter (text "{pbkdf2s2}") t) (goesOnAfter (text "{pbkdf2s3}") t) h
+unfolding isBraced
+braced-some t = go (dollarString t)
   where
-    go : (x y : Bool) → (x || y) ≡ true
-        → (s : List ℕ) × (orElse (cond x (some (text "$pbkdf2s2$" ++ drop 10 t)) none) (cond y (some (text "$pbkdf2s3$" ++ drop 10 t)) none) ≡ some s)
-    go true y h = (text "$pbkdf2s2$" ++ drop 10 t, refl)
-    go false true h = (text "$pbkdf2s3$" ++ drop 10 t, refl)
-    go false false h = absurd (false≢true h)
+    go : (o : OptionalText) → maybe false (λ (s : List ℕ). true) o ≡ true → (s : List ℕ) × (o ≡ some s)
+    go none h = absurd (false≢true h)
+    go (some s) h = (s, refl)
 
 pub not-braced : (t : List ℕ) → isBraced t ≡ false → dollarString t ≡ none
+unfolding isBraced
+not-braced t = go (dollarString t)
+  where
+    go : (o : OptionalText) → maybe false (λ (s : List ℕ). true) o ≡ false → o ≡ none
+    go none h = refl
+    go (some s) h = absurd (true≢false h)
+
+-- it goes on after one of the prefixes
+braced-is : (t : List ℕ) → isBraced t ≡ (goesOnAfter (text "{pbkdf2s2}") t || goesOnAfter (text "{pbkdf2s3}") t)
 unfolding isBraced dollarString
-not-braced t h = let p = neither (goesOnAfter (text "{pbkdf2s2}") t) (goesOnAfter (text "{pbkdf2s3}") t) h in rw (p .0, p .1)
+braced-is t = go (goesOnAfter (text "{pbkdf2s2}") t) (goesOnAfter (text "{pbkdf2s3}") t) _ _
+  where
+    go : (x y : Bool) (u v : List ℕ) → maybe false (λ (s : List ℕ). true) (orElse (cond x (some u) none) (cond y (some v) none)) ≡ (x || y)
+    go true y u v = refl
+    go false true u v = refl
+    go false false u v = refl
 
 -- ---- as the code tests it
 
 pub short-not-braced : (t : List ℕ) → length t ≤ prefixLength → isBraced t ≡ false
-unfolding isBraced
-short-not-braced t h = rw (drop-of-length-le t {i = 10} h, and-false (startsWith (text "{pbkdf2s2}") t), and-false (startsWith (text "{pbkdf2s3}") t))
+short-not-braced t h = rw (braced-is t, drop-of-length-le t {i = 10} h, and-false (startsWith (text "{pbkdf2s2}") t), and-false (startsWith (text "{pbkdf2s3}") t))
 
 -- of a text with more bytes than a prefix the first so many are compared
 more-after : (prefix t : List ℕ) → length prefix < length t → goesOnAfter prefix t ≡ same (take (length prefix) t) prefix
@@ -138,12 +149,10 @@ more-after prefix t h =
     rw (e, starts-take prefix t, and-true (same (take (length prefix) t) prefix))
 
 pub braced-first : (t : List ℕ) → prefixLength < length t → same (take 10 t) (text "{pbkdf2s2}") ≡ true → isBraced t ≡ true
-unfolding isBraced
-braced-first t h e = rw (more-after (text "{pbkdf2s2}") t h, e)
+braced-first t h e = rw (braced-is t, more-after (text "{pbkdf2s2}") t h, e)
 
 pub braced-second : (t : List ℕ) → prefixLength < length t → same (take 10 t) (text "{pbkdf2s2}") ≡ false → isBraced t ≡ same (take 10 t) (text "{pbkdf2s3}")
-unfolding isBraced
-braced-second t h e = rw (more-after (text "{pbkdf2s2}") t h, e, more-after (text "{pbkdf2s3}") t h)
+braced-second t h e = rw (braced-is t, more-after (text "{pbkdf2s2}") t h, e, more-after (text "{pbkdf2s3}") t h)
 
 pub braced-length : (t : List ℕ) → isBraced t ≡ true → prefixLength < length t
 braced-length t h = let (s, d) = braced-some t h in omega (arith, dollar-length t s d)

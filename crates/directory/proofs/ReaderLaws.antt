@@ -4,14 +4,14 @@ use Prim.Native.Nat.{ℕ, _-_, _≤_, _<_}
 use mathlib.Core.Bool.{true, false}
 use mathlib.Core.List.{List, _++_}
 use mathlib.Core.Logic.{_⊎_, inl, inr}
-use mathlib.Core.Option.{Option, none, some}
+use mathlib.Core.Option.{none, some}
 use mathlib.Core.Path.{_≡_, refl, sym, _∙_, ap}
 use native.Mathlib.Omega.{arith}
 use lib.ListN.{length, take, drop, set}
 use lib.Seq.{take-append-seam}
 use borrow.Author.Tests.{ne-eqb}
 use Rattle.text.specs.Text.{text, maybe}
-use Rattle.text.specs.Place.{Outcome, outcome, refused, over, put}
+use Rattle.text.specs.Place.{outcome, refused, put}
 use Rattle.text.proofs.Over.{over-start}
 use Rattle.text.proofs.Writing.{put-fits, put-refused}
 use Rattle.grammar.specs.Limits.{longestString}
@@ -20,7 +20,6 @@ use Rattle.grammar.proofs.Reading.{bad-string-long, number-bad-string}
 use Rattle.table.specs.Limits.{Profile, editionTwo}
 use Rattle.profile.specs.Fields.{chosen}
 use Rattle.profile.specs.Reader.{readerNumber, fieldsOf}
-use Rattle.profile.specs.Writer.{formatted}
 use Rattle.profile.specs.Entries.{refusedReading, reading, decoded}
 use Rattle.profile.specs.declared.fields.ByteString.{ByteString}
 use Rattle.profile.specs.declared.fields.Reading.{Reading}
@@ -29,10 +28,9 @@ use Rattle.profile.proofs.Allows.{not-refused}
 use Rattle.profile.proofs.Accepted.{accepted}
 use Rattle.profile.proofs.ReadLaws.{answer-refused, reading-refused, reading-number}
 use Rattle.fast_path.specs.Contents.{joinedBytes, refusedContents, allDecoded, contents}
-use Rattle.fast_path.specs.declared.contents.Contents.{Contents}
-use Rattle.directory.specs.Braced.{dollarString, longestBraced, prefixLength}
-use Rattle.directory.specs.Entries.{ofDollarString, hasPrefixId, directoryNumber, directoryReading, directoryDecoded, directoryAllDecoded, directoryContents}
-use Rattle.directory.specs.BracedSteps.{isBraced, HoldsDollarString, RefusalIs}
+use Rattle.directory.specs.Braced.{dollarString, longestBraced}
+use Rattle.directory.specs.Entries.{ofDollarString, isDirectoryId, directoryNumber, directoryReading, directoryDecoded, directoryAllDecoded, directoryContents}
+use Rattle.directory.specs.BracedSteps.{isBraced, RefusalIs}
 use Rattle.directory.proofs.Prefixes.{Differ, dollar-view, dollar-length, dollar-marked, braced-some, not-braced}
 use Rattle.directory.proofs.Texts.{at-most}
 
@@ -40,7 +38,7 @@ use Rattle.directory.proofs.Texts.{at-most}
 
 -- in the array: the text copied, and its prefix marked
 pub held : (t out copy left : List ℕ) (number count : ℕ) → isBraced t ≡ true → length t ≤ length out → outcome number count copy ≡ put out 0 t
-    → left ≡ set (set copy 0 36) 9 36 → HoldsDollarString t left
+    → left ≡ set (set copy 0 36) 9 36 → dollarString t ≡ some (take (length t) left)
 held t out copy left number count h l e q =
     let (s, d) = braced-some t h in
     let w = put-fits out 0 t number count copy (omega arith) e in
@@ -48,11 +46,7 @@ held t out copy left number count h l e q =
     let c : copy ≡ t ++ x = w .left-is ∙ over-start out t in
     let m : left ≡ s ++ x = q ∙ ap (λ (y : List ℕ). set (set y 0 36) 9 36) c ∙ dollar-marked t s d x in
     let k : take (length t) left ≡ s = ap (take (length t)) m ∙ ap (λ (n : ℕ). take n (s ++ x)) (dollar-length t s d .0) ∙ take-append-seam s x in
-    record { string = d ∙ ap some (sym k) }
-
--- as long as the text
-pub held-length : (t out : List ℕ) → HoldsDollarString t out → prefixLength < length t
-held-length t out h = let l = dollar-length t (take (length t) out) (h .string) in omega arith
+    d ∙ ap some (sym k)
 
 -- handed on as a part of the array
 front : (n : ℕ) (out : List ℕ) → take (n - 0) (drop 0 out) ≡ take n out
@@ -66,18 +60,18 @@ module _ {A : Type 0} (refusal : A) (answer : List ℕ → A) where
   of-none t d = ap (maybe refusal answer) d
 
   -- what is said of the part is said of the braced text
-  pub of-held : (t out : List ℕ) → HoldsDollarString t out → answer (take (length t - 0) (drop 0 out)) ≡ ofDollarString refusal answer t
-  of-held t out h = ap answer (front (length t) out) ∙ sym (of-string t (take (length t) out) (h .string))
+  pub of-held : (t out : List ℕ) → dollarString t ≡ some (take (length t) out) → answer (take (length t - 0) (drop 0 out)) ≡ ofDollarString refusal answer t
+  of-held t out h = ap answer (front (length t) out) ∙ sym (of-string t (take (length t) out) h)
 
 -- ---- the number
 
 -- the id of a string with one of the prefixes
-pub prefix-id : (t s : List ℕ) → dollarString t ≡ some s → hasPrefixId (fieldsOf editionTwo s .numbers .id) ≡ true
+pub prefix-id : (t s : List ℕ) → dollarString t ≡ some s → isDirectoryId (fieldsOf editionTwo s .numbers .id) ≡ true
 unfolding fieldsOf pieces editionTwo
 prefix-id t s d = go (dollar-view t s d)
   where
     go : Differ (text "{pbkdf2s2}") (text "$pbkdf2s2$") t s ⊎ Differ (text "{pbkdf2s3}") (text "$pbkdf2s3$") t s
-        → hasPrefixId (fieldsOf editionTwo s .numbers .id) ≡ true
+        → isDirectoryId (fieldsOf editionTwo s .numbers .id) ≡ true
     go (inl w) = rw (w .right)
     go (inr w) = rw (w .right)
 
@@ -89,14 +83,13 @@ short t s d z =
     omega (arith, ap length (a .1), dollar-length t s d .0)
 
 -- past the longest string
-pub number-long : (t : List ℕ) → isBraced t ≡ true → longestString < length t → 1 ≡ directoryNumber editionTwo t
+pub number-long : (t s : List ℕ) → dollarString t ≡ some s → longestString < length t → 1 ≡ directoryNumber editionTwo t
 unfolding directoryNumber
-number-long t h l =
-    let (s, d) = braced-some t h in
+number-long t s d l =
     let b = bad-string-long s (omega (arith, dollar-length t s d .0)) in
     sym (of-string 24 (readerNumber editionTwo) t s d ∙ answer-refused editionTwo s 1 (number-bad-string s b) (λ z. omega arith))
 
-pub number-held : (t out : List ℕ) → HoldsDollarString t out → (r : Reading) → r ≡ reading editionTwo (take (length t - 0) (drop 0 out))
+pub number-held : (t out : List ℕ) → dollarString t ≡ some (take (length t) out) → (r : Reading) → r ≡ reading editionTwo (take (length t - 0) (drop 0 out))
     → r .number ≡ directoryNumber editionTwo t
 unfolding directoryNumber
 number-held t out h r e =

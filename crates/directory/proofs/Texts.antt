@@ -1,7 +1,7 @@
 -- What fields of the two ids are written to: the id alone, or a string that has a braced text. No string ends with its second `$`.
 -- Assumes nothing.
 use Prim.Native.Nat.{ℕ, zero, suc, _+_, _≤_, _<_}
-use mathlib.Core.Bool.{Bool, true, false, false≢true, true≢false}
+use mathlib.Core.Bool.{Bool, true, false, true≢false}
 use mathlib.Core.List.{List, [], _∷_, _++_}
 use mathlib.Core.Logic.{_⊎_, inl, inr, ⊎-elim}
 use mathlib.Core.Option.{none, some}
@@ -16,17 +16,17 @@ use Rattle.text.proofs.Lists.{same-eq, same-refl, length-filled}
 use Rattle.b64.proofs.B64Laws.{length-encode}
 use Rattle.grammar.specs.Bytes.{dollar}
 use Rattle.grammar.specs.Pieces.{OptionalText, afterId}
-use Rattle.table.specs.Limits.{Profile, profileOf, editionTwo}
+use Rattle.table.specs.Limits.{Profile, editionTwo}
 use Rattle.table.specs.declared.version.Version.{Version}
 use Rattle.table.specs.declared.version.Version.the-variants.{Absent, Number}
 use Rattle.profile.specs.Fields.{FieldSet, writeBytes, writeNumber, writeVersion}
-use Rattle.profile.specs.Writer.{Allows, writerNumber, fieldPieces, formatted}
+use Rattle.profile.specs.Writer.{writerNumber, fieldPieces, formatted}
 use Rattle.profile.specs.PieceTexts.{taggedLength}
 use Rattle.profile.proofs.Allows.{here, allowed}
 use Rattle.profile.proofs.Texts.{formatted-length}
 use Rattle.profile.proofs.Lengths.{bounds-two}
 use Rattle.directory.specs.Braced.{bracedText, longestBraced}
-use Rattle.directory.specs.Entries.{hasPrefixId, isIdAlone}
+use Rattle.directory.specs.Entries.{isDirectoryId, isIdAlone}
 
 -- ---- no piece is empty, so none adds its `$` alone
 
@@ -106,21 +106,21 @@ module _ (e : List Profile) (f : FieldSet) where
 
 -- ---- the two ids of edition two
 
-pub which : (k : ℕ) → hasPrefixId k ≡ true → (k ≡ 4) ⊎ (k ≡ 5)
+pub which : (k : ℕ) → isDirectoryId k ≡ true → (k ≡ 4) ⊎ (k ≡ 5)
 which k h = go (eqb k 4) refl
   where
     go : (b : Bool) → eqb k 4 ≡ b → (k ≡ 4) ⊎ (k ≡ 5)
     go true q = inl (eqb-true k 4 q)
     go false q = inr (omega (arith, eqb-false k 4 q, from-within 4 5 k h))
 
-pub other-id : (k : ℕ) → (k ≡ 4 → ⊥) → (k ≡ 5 → ⊥) → hasPrefixId k ≡ false
-other-id k a b = go (hasPrefixId k) refl
+pub other-id : (k : ℕ) → (k ≡ 4 → ⊥) → (k ≡ 5 → ⊥) → isDirectoryId k ≡ false
+other-id k a b = go (isDirectoryId k) refl
   where
-    go : (x : Bool) → hasPrefixId k ≡ x → x ≡ false
+    go : (x : Bool) → isDirectoryId k ≡ x → x ≡ false
     go true q = absurd (⊎-elim a b (which k q))
     go false q = refl
 
-module _ (f : FieldSet) (h : hasPrefixId (f .numbers .id) ≡ true) where
+module _ (f : FieldSet) (h : isDirectoryId (f .numbers .id) ≡ true) where
   pub name-length : length (here editionTwo f .name) ≡ 8
   unfolding editionTwo
   name-length = go (which (f .numbers .id) h)

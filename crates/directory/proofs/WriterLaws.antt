@@ -11,8 +11,8 @@ use lib.ListN.{length, take, drop, set}
 use lib.Seq.{take-append-seam}
 use borrow.Author.Tests.{eqb-true, eqb-false}
 use Rattle.text.specs.Text.{maybe}
-use Rattle.text.specs.Place.{Outcome, outcome, refused, over, put, putAfter}
-use Rattle.text.specs.Rows.{row, firstOf}
+use Rattle.text.specs.Place.{Outcome, outcome, refused, put}
+use Rattle.text.specs.Rows.{row}
 use Rattle.text.proofs.Over.{over-start}
 use Rattle.text.proofs.Rows.{rows-stop, rows-next}
 use Rattle.text.proofs.Writing.{after-number, after-counted, after-done, put-refused, put-clear}
@@ -20,19 +20,20 @@ use Rattle.table.specs.Limits.{Profile, editionTwo}
 use Rattle.profile.specs.Fields.{FieldSet}
 use Rattle.profile.specs.Writer.{writerRows, writerNumber, formatted}
 use Rattle.profile.specs.Entries.{writing}
-use Rattle.directory.specs.Braced.{bracedText, prefixLength, longestBraced}
-use Rattle.directory.specs.Entries.{hasPrefixId, isIdAlone, directoryWriterNumber, directoryFormatted, directoryWriting}
+use Rattle.directory.specs.Braced.{bracedText, longestBraced}
+use Rattle.directory.specs.BracedSteps.{prefixLength}
+use Rattle.directory.specs.Entries.{isDirectoryId, isIdAlone, directoryWriterNumber, directoryFormatted, directoryWriting}
 use Rattle.directory.proofs.Prefixes.{dollar-length, braced-dollar, braced-marked}
 use Rattle.directory.proofs.Texts.{alone-length, more-length, name-length, spelled, at-most}
 
 -- ---- the number
 
 module _ (e : List Profile) (f : FieldSet) where
-  pub number-other : hasPrefixId (f .numbers .id) ≡ false → directoryWriterNumber e f ≡ 24
+  pub number-other : isDirectoryId (f .numbers .id) ≡ false → directoryWriterNumber e f ≡ 24
   unfolding directoryWriterNumber
   number-other h = rw h
 
-  module _ (h : hasPrefixId (f .numbers .id) ≡ true) where
+  module _ (h : isDirectoryId (f .numbers .id) ≡ true) where
     pub number-row : (n : ℕ) → n ≡ writerNumber e f → (n ≡ 0 → ⊥) → directoryWriterNumber e f ≡ n
     unfolding directoryWriterNumber writerNumber
     number-row n q z = rw h (rows-stop (writerRows e f) (row 24 (isIdAlone e f) ∷ []) n q z)
@@ -48,24 +49,24 @@ formatted-is e f t q = ap (maybe [] (λ (u : List ℕ). u)) q
 
 -- fields whose number is 0: of one of the two ids, clear for the writer, and not written as the id alone
 pub record NotRefused (f : FieldSet) : Type 0 where
-  pub id : hasPrefixId (f .numbers .id) ≡ true
+  pub id : isDirectoryId (f .numbers .id) ≡ true
   pub row : writerNumber editionTwo f ≡ 0
   pub more : isIdAlone editionTwo f ≡ false
 
 pub number-zero : (f : FieldSet) → directoryWriterNumber editionTwo f ≡ 0 → NotRefused f
-number-zero f z = by-id (hasPrefixId (f .numbers .id)) refl
+number-zero f z = by-id (isDirectoryId (f .numbers .id)) refl
   where
-    by-text : hasPrefixId (f .numbers .id) ≡ true → writerNumber editionTwo f ≡ 0 → (b : Bool) → isIdAlone editionTwo f ≡ b → NotRefused f
+    by-text : isDirectoryId (f .numbers .id) ≡ true → writerNumber editionTwo f ≡ 0 → (b : Bool) → isIdAlone editionTwo f ≡ b → NotRefused f
     by-text h r true a = absurd (omega (arith, number-clear editionTwo f h r ∙ ap (λ (b : Bool). cond b 24 0) a))
     by-text h r false a = record { id = h; row = r; more = a }
 
-    by-row : hasPrefixId (f .numbers .id) ≡ true → (b : Bool) → eqb (writerNumber editionTwo f) 0 ≡ b → NotRefused f
+    by-row : isDirectoryId (f .numbers .id) ≡ true → (b : Bool) → eqb (writerNumber editionTwo f) 0 ≡ b → NotRefused f
     by-row h true q = by-text h (eqb-true (writerNumber editionTwo f) 0 q) (isIdAlone editionTwo f) refl
     by-row h false q =
         let n = eqb-false (writerNumber editionTwo f) 0 q in
         absurd (n (sym (number-row editionTwo f h (writerNumber editionTwo f) refl n) ∙ z))
 
-    by-id : (b : Bool) → hasPrefixId (f .numbers .id) ≡ b → NotRefused f
+    by-id : (b : Bool) → isDirectoryId (f .numbers .id) ≡ b → NotRefused f
     by-id true h = by-row h (eqb (writerNumber editionTwo f) 0) refl
     by-id false h = absurd (omega (arith, number-other editionTwo f h))
 
@@ -89,10 +90,10 @@ module _ (f : FieldSet) (buffer : List ℕ) (at : ℕ) where
   unfolding directoryWriting
   stopped n q z = put-refused buffer at (directoryFormatted editionTwo f) (directoryWriterNumber editionTwo f) n q z
 
-  pub write-other : hasPrefixId (f .numbers .id) ≡ false → refused 24 buffer ≡ directoryWriting editionTwo f buffer at
+  pub write-other : isDirectoryId (f .numbers .id) ≡ false → refused 24 buffer ≡ directoryWriting editionTwo f buffer at
   write-other h = stopped 24 (number-other editionTwo f h) (omega arith)
 
-  module _ (h : hasPrefixId (f .numbers .id) ≡ true) (s s₁ : List ℕ) (l : length s ≡ longestBraced) (number count : ℕ) (w : outcome number count s₁ ≡ writing editionTwo f s 0) where
+  module _ (h : isDirectoryId (f .numbers .id) ≡ true) (s s₁ : List ℕ) (l : length s ≡ longestBraced) (number count : ℕ) (w : outcome number count s₁ ≡ writing editionTwo f s 0) where
     -- the array has the room, so the number is the writer's own
     number-is : number ≡ writerNumber editionTwo f
     unfolding writing

@@ -1,5 +1,5 @@
--- The outcomes that the contracts of the directory's entries name: '24 comes first; after it the numbers are those of the `$` string' (02). No rule
--- of the profiles stands here.
+-- The rows and the outcomes that the contracts of the directory's entries name. Of 24 'it comes first; after it the numbers are those of the `$`
+-- string' (02). No rule of the profiles stands here.
 -- Assumes nothing.
 use Prim.Native.Nat.{ℕ}
 use mathlib.Core.Bool.{Bool, not}
@@ -48,17 +48,17 @@ directoryContents e t buffer at = ofDollarString (refusedContents 24) (λ (s : L
 -- ---- writing
 
 -- pbkdf2s2 and pbkdf2s3
-abbrev pub hasPrefixId : ℕ → Bool
-hasPrefixId k = within 4 5 k
+abbrev pub isDirectoryId : ℕ → Bool
+isDirectoryId k = within 4 5 k
 
--- written as the id alone
+-- the string of the fields is the id alone
 abbrev pub isIdAlone : List Profile → FieldSet → Bool
 isIdAlone e f = same (formatted e f) (dollar ∷ profileOf e (f .numbers .id) .name)
 
 -- 'on writing for another id or for fields that are written as the id alone': the writer's own rows stand between the two, since fields that are
 -- not permitted are not written
 abbrev pub directoryRows : List Profile → FieldSet → List Row
-directoryRows e f = row 24 (not (hasPrefixId (f .numbers .id))) ∷ (writerRows e f ++ (row 24 (isIdAlone e f) ∷ []))
+directoryRows e f = row 24 (not (isDirectoryId (f .numbers .id))) ∷ (writerRows e f ++ (row 24 (isIdAlone e f) ∷ []))
 
 unfoldable pub directoryWriterNumber : List Profile → FieldSet → ℕ
 directoryWriterNumber e f = firstOf (directoryRows e f)

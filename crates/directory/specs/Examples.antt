@@ -25,19 +25,19 @@ bracedTexts =
     ∷ ("{pbkdf2s3}AAAAAA$AAAAAAAAAAAAAAAA", 0)
     ∷ []
 
--- of an id, a version, m and t, with an output or without
-abbrev pub costs : ℕ → Version → ℕ → ℕ → List ℕ → FieldSet
-costs id version m t output = fieldSet (record { id = id; version = version; m = m; t = t; p = 0 }) [] [] [] output
+-- p is 0, and there is no byte string but the output
+abbrev pub pbkdf2Fields : ℕ → Version → ℕ → ℕ → List ℕ → FieldSet
+pbkdf2Fields id version m t output = fieldSet (record { id = id; version = version; m = m; t = t; p = 0 }) [] [] [] output
 
 abbrev pub fieldExamples : List (FieldSet × ℕ)
 fieldExamples =
-    (costs 4 Absent 0 20000 [], 24)
-    ∷ (costs 4 Absent 1 20000 [], 11)
-    ∷ (costs 4 (Number 19) 0 20000 [], 9)
-    ∷ (costs 4 Absent 0 20000 (1 ∷ 2 ∷ 3 ∷ 4 ∷ 5 ∷ 6 ∷ 7 ∷ 8 ∷ 9 ∷ 10 ∷ 11 ∷ 12 ∷ []), 16)
-    ∷ (costs 4 Absent 0 100 [], 0)
-    ∷ (costs 5 Absent 0 20001 [], 0)
-    ∷ (costs 0 Absent 0 100 [], 24)
-    ∷ (costs 3 Absent 0 100 [], 24)
-    ∷ (costs 6 Absent 0 100 [], 24)
+    (pbkdf2Fields 4 Absent 0 20000 [], 24)
+    ∷ (pbkdf2Fields 4 Absent 1 20000 [], 11)
+    ∷ (pbkdf2Fields 4 (Number 19) 0 20000 [], 9)
+    ∷ (pbkdf2Fields 4 Absent 0 20000 (1 ∷ 2 ∷ 3 ∷ 4 ∷ 5 ∷ 6 ∷ 7 ∷ 8 ∷ 9 ∷ 10 ∷ 11 ∷ 12 ∷ []), 16)
+    ∷ (pbkdf2Fields 4 Absent 0 100 [], 0)
+    ∷ (pbkdf2Fields 5 Absent 0 20001 [], 0)
+    ∷ (pbkdf2Fields 0 Absent 0 100 [], 24)
+    ∷ (pbkdf2Fields 3 Absent 0 100 [], 24)
+    ∷ (pbkdf2Fields 6 Absent 0 100 [], 24)
     ∷ []

@@ -5,9 +5,10 @@ use text::scan::same_text;
 ghost use Prim.Native.Nat.{_≤_};
 ghost use mathlib.Core.Path.{_≡_};
 ghost use mathlib.Core.Bool.{true};
-ghost use lib.ListN.{length, set};
-ghost use Rattle.directory.specs.Braced.{prefixLength};
-ghost use Rattle.directory.specs.BracedSteps.{isBraced, HoldsDollarString};
+ghost use mathlib.Core.Option.{some};
+ghost use lib.ListN.{length, take, set};
+ghost use Rattle.directory.specs.Braced.{dollarString};
+ghost use Rattle.directory.specs.BracedSteps.{prefixLength, isBraced};
 
 // Whether a text goes on after one of the two prefixes.
 pub fn is_braced(t: &[u8]) -> bool
@@ -34,7 +35,7 @@ pub fn mark(s: &mut [u8], first: u8, last: u8)
 // The `$` string of a braced text, to the start of a buffer that has room for it.
 pub fn put_dollar_string(t: &[u8], out: &mut [u8])
     requires { ⌜ (isBraced (now t) ≡ true) × (length (now t) ≤ length (now out)) ⌝ }
-    ensures { λ _. ⌜ HoldsDollarString (now (t .entry)) (now (out .exit)) ⌝ }
+    ensures { λ _. ⌜ dollarString (now (t .entry)) ≡ some (take (length (now (t .entry))) (now (out .exit))) ⌝ }
 {
     write_text(t, out, 0);
     mark(out, b'$', b'$');

@@ -45,7 +45,7 @@ fn refusal_of(t: &[u8]) -> u8
     long_number(t)
 }
 
-// Kind and number fields of a braced text; 24, then 1 to 15 and zeros, version absent.
+// Kind and number fields of a braced text; or 24, 1, 3 to 7, 9 to 15 and zeros, version absent.
 pub fn read(t: &[u8]) -> Reading
     ensures { λ r. ⌜ r ≡ directoryReading editionTwo (now (t .entry)) ⌝ }
 {
@@ -58,7 +58,7 @@ pub fn read(t: &[u8]) -> Reading
     fast_path::reader::read(&s[0..t.len()])
 }
 
-// Decodes one of the four byte strings into `buf` from `at` on; the count is the decoded length, 0 when absent. 24, 1 to 15, then 17.
+// Decodes one of the four byte strings into `buf` from `at` on; the count is the decoded length, 0 when absent. The numbers of `read`, then 17.
 pub fn byte_string(t: &[u8], choice: ByteString, buf: &mut [u8], at: usize) -> Decoded
     ensures { λ r. ⌜ outcome (r .number) (r .count .0) (now (buf .exit)) ≡ directoryDecoded editionTwo choice (now (t .entry)) (now (buf .entry)) at ⌝ }
 {
@@ -74,8 +74,8 @@ pub fn byte_string(t: &[u8], choice: ByteString, buf: &mut [u8], at: usize) -> D
     profile::reader::byte_string(&s[0..t.len()], choice, buf, at)
 }
 
-// What `read` gives, how many bytes each byte string has, and keyid, data, salt and output, one after the other, in `buf` from `at` on. 24, 1 to
-// 15, then 17.
+// What `read` gives, how many bytes each byte string has, and keyid, data, salt and output, one after the other, in `buf` from `at` on. The
+// numbers of `read`, then 17.
 pub fn read_all(t: &[u8], buf: &mut [u8], at: usize) -> Contents
     ensures { λ r. ⌜ (r ≡ directoryContents editionTwo (now (t .entry)) (now (buf .entry)) at) × (now (buf .exit) ≡ directoryAllDecoded editionTwo (now (t .entry)) (now (buf .entry)) at .buffer) ⌝ }
 {

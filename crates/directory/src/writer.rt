@@ -11,15 +11,15 @@ ghost use mathlib.Core.Path.{_≡_};
 ghost use Rattle.text.specs.Place.{outcome};
 ghost use Rattle.table.specs.Limits.{editionTwo};
 ghost use Rattle.profile.specs.Fields.{fieldSet};
-ghost use Rattle.directory.specs.Entries.{hasPrefixId, directoryWriting};
+ghost use Rattle.directory.specs.Entries.{isDirectoryId, directoryWriting};
 
 // The ids that have a prefix.
 const PBKDF2S2: u8 = 4;
 
 const PBKDF2S3: u8 = 5;
 
-fn has_prefix_id(id: u8) -> bool
-    ensures { λ r. ⌜ r ≡ hasPrefixId id ⌝ }
+fn is_directory_id(id: u8) -> bool
+    ensures { λ r. ⌜ r ≡ isDirectoryId id ⌝ }
 {
     match id {
         PBKDF2S2 => true,
@@ -50,7 +50,7 @@ pub fn write(
 ) -> Written
     ensures { λ r. ⌜ outcome (r .number) (r .count .0) (now (buf .exit)) ≡ directoryWriting editionTwo (fieldSet n (now (keyid .entry)) (now («data» .entry)) (now (salt .entry)) (now (output .entry))) (now (buf .entry)) at ⌝ }
 {
-    if !has_prefix_id(n.id) {
+    if !is_directory_id(n.id) {
         return refused(NO_SPELLING);
     }
     let mut s = [0u8; LONGEST_BRACED];

@@ -25,7 +25,7 @@ use Rattle.fast_path.specs.Contents.{joinedBytes}
 use Rattle.fast_path.specs.Claims.{mostBytes}
 use Rattle.fast_path.proofs.Claims.{fast-path-agrees}
 use Rattle.directory.specs.Braced.{dollarString, longestBraced}
-use Rattle.directory.specs.Entries.{hasPrefixId, directoryReading, directoryWriterNumber, directoryWriting}
+use Rattle.directory.specs.Entries.{isDirectoryId, directoryReading, directoryWriterNumber, directoryWriting}
 use Rattle.directory.proofs.WriterLaws.{number-other, number-row}
 use Rattle.directory.proofs.Claims.{known}
 use Rattle.phc.specs.Records.{recordAllLength, allOutcome, recordedAll, directoryRecordedAll, coded}
@@ -78,13 +78,13 @@ directory-number t «record» buffer h k = go (dollarString t)
     go (some s) = record-all-number s «record» buffer h k
 
 directory-flag-refused : (id flag version m t p : ℕ) (keyid «data» salt output : List ℕ) → 2 ≤ flag
-    → directoryWriterNumber editionTwo (handed id flag version m t p keyid «data» salt output) ≡ cond (hasPrefixId id) 9 24
-directory-flag-refused id flag version m t p keyid «data» salt output h = go (hasPrefixId id) refl
+    → directoryWriterNumber editionTwo (handed id flag version m t p keyid «data» salt output) ≡ cond (isDirectoryId id) 9 24
+directory-flag-refused id flag version m t p keyid «data» salt output h = go (isDirectoryId id) refl
   where
     f : FieldSet
     f = handed id flag version m t p keyid «data» salt output
 
-    go : (b : Bool) → hasPrefixId id ≡ b → directoryWriterNumber editionTwo f ≡ cond b 9 24
+    go : (b : Bool) → isDirectoryId id ≡ b → directoryWriterNumber editionTwo f ≡ cond b 9 24
     go true e =
         let n = flag-refused id flag version m t p keyid «data» salt output h ∙ ap (λ (b : Bool). cond b 9 8) (known f e) in
         number-row editionTwo f e 9 (sym n) (λ z. omega arith)

@@ -22,13 +22,14 @@ use Rattle.profile.specs.Writer.{writerNumber, formatted, shortFields}
 use Rattle.profile.specs.Entries.{reading, algorithmVersion, decoded, writing, shortWriting}
 use Rattle.profile.specs.Claims.{isReaderNumber, isByteStringNumber, writerNumbers, isWriterNumber, shortWriterNumbers, isShortWriterNumber}
 use Rattle.profile.specs.declared.fields.ByteString.{ByteString}
+use Rattle.profile.proofs.ReadLaws.{reading-number}
 use Rattle.profile.proofs.Promises.{promises}
 use Rattle.fast_path.specs.Contents.{joinedBytes, counted}
 use Rattle.directory.specs.Braced.{dollarString}
 use Rattle.directory.specs.Entries.{directoryWriterNumber, directoryFormatted, directoryWriting}
-use Rattle.directory.specs.Claims.{isDirectoryByteStringNumber, directoryWriterNumbers, isDirectoryWriterNumber}
+use Rattle.directory.specs.Claims.{directoryByteStringNumbers, isDirectoryByteStringNumber, directoryWriterNumbers, isDirectoryWriterNumber}
 use Rattle.directory.proofs.WriterLaws.{number-zero, text-length}
-use Rattle.directory.proofs.Claims.{directory-claims}
+use Rattle.directory.proofs.Claims.{byte-string-own, directory-claims}
 use Rattle.phc.specs.Records.{recordBytes, countBytes, recorded, allOutcome, recordedAll, directoryRecordedAll, codeOf, coded, isRefusal}
 use Rattle.phc.proofs.CodeLaws.{code-tells, number-tells}
 
@@ -95,39 +96,40 @@ module _ (s «record» buffer : List ℕ) where
   read-all-small =
       after-small fits buffer 0 (joinedBytes (fieldsOf editionTwo s)) (after-small (reading editionTwo s .number) «record» 0 told (reading-small s))
 
-  bytes-refuse : Refuses isByteStringNumber buffer bytes
-  bytes-refuse =
-      after-refuses isByteStringNumber fits buffer 0 (joinedBytes (fieldsOf editionTwo s))
-      (λ z. after-refuses isByteStringNumber (reading editionTwo s .number) «record» 0 told (reading-own s) refl z .0) refl
+  -- with numbers that the reader's are among, and 17
+  module _ (own : ℕ → Bool) (h : (reading editionTwo s .number ≡ 0 → ⊥) → own (reading editionTwo s .number) ≡ true) (k : own 17 ≡ true) where
+    bytes-refuse : Refuses own buffer bytes
+    bytes-refuse =
+        after-refuses own fits buffer 0 (joinedBytes (fieldsOf editionTwo s))
+        (λ z. after-refuses own (reading editionTwo s .number) «record» 0 told h k z .0) k
+
+    all-refuses : (recordedAll s «record» buffer .number ≡ 0 → ⊥)
+        → (own (recordedAll s «record» buffer .number) ≡ true) × (recordedAll s «record» buffer ≡ allOutcome (recordedAll s «record» buffer .number) «record» buffer)
+    unfolding recordedAll
+    all-refuses z =
+        let b = bytes-refuse z in
+        let r = put-refused «record» 0 told (bytes .number) (bytes .number) refl (omega (arith, z)) in
+        (b .0, λ i. allOutcome (bytes .number) (sym r i .buffer) (b .1 i .buffer))
 
   pub read-all-refuses : (recordedAll s «record» buffer .number ≡ 0 → ⊥)
       → (isByteStringNumber (recordedAll s «record» buffer .number) ≡ true) × (recordedAll s «record» buffer ≡ allOutcome (recordedAll s «record» buffer .number) «record» buffer)
-  unfolding recordedAll
-  read-all-refuses z =
-      let b = bytes-refuse z in
-      let r = put-refused «record» 0 told (bytes .number) (bytes .number) refl (omega (arith, z)) in
-      (b .0, λ i. allOutcome (bytes .number) (sym r i .buffer) (b .1 i .buffer))
+  read-all-refuses = all-refuses isByteStringNumber (reading-own s) refl
 
 -- ---- the same of a braced text
-
-directory-small : (k : ℕ) → isDirectoryByteStringNumber k ≡ true → k ≤ 99
-directory-small k h = go (isByteStringNumber k) refl h
-  where
-    go : (b : Bool) → isByteStringNumber k ≡ b → (b || eqb k 24) ≡ true → k ≤ 99
-    go true e t = byte-string-small k e
-    go false e t = omega (arith, eqb-true k 24 t)
 
 pub directory-read-all-refuses : (t «record» buffer : List ℕ) → (directoryRecordedAll t «record» buffer .number ≡ 0 → ⊥)
     → (isDirectoryByteStringNumber (directoryRecordedAll t «record» buffer .number) ≡ true)
     × (directoryRecordedAll t «record» buffer ≡ allOutcome (directoryRecordedAll t «record» buffer .number) «record» buffer)
 unfolding directoryRecordedAll
-directory-read-all-refuses t «record» buffer = go (dollarString t)
+directory-read-all-refuses t «record» buffer = go (dollarString t) refl
   where
-    go : (o : OptionalText)
+    go : (o : OptionalText) → dollarString t ≡ o
         → let all = maybe (allOutcome 24 «record» buffer) (λ (s : List ℕ). recordedAll s «record» buffer) o in
         (all .number ≡ 0 → ⊥) → (isDirectoryByteStringNumber (all .number) ≡ true) × (all ≡ allOutcome (all .number) «record» buffer)
-    go none n = (refl, refl)
-    go (some s) n = let q = read-all-refuses s «record» buffer n in (rw (q .0), q .1)
+    go none d n = (refl, refl)
+    go (some s) d n =
+        let q = reading-number editionTwo s in
+        all-refuses s «record» buffer isDirectoryByteStringNumber (λ z. ap isDirectoryByteStringNumber q ∙ byte-string-own t s d (λ y. z (q ∙ y))) refl n
 
 -- ---- a string has a byte
 
@@ -194,7 +196,7 @@ pub directory-read-all-answer : (t «record» buffer : List ℕ)
     → isRefusal (directoryRecordedAll t «record» buffer .number) ≡ not (eqb (directoryRecordedAll t «record» buffer .number) 0)
 directory-read-all-answer t «record» buffer =
     number-tells (directoryRecordedAll t «record» buffer .number)
-    (small isDirectoryByteStringNumber directory-small (directoryRecordedAll t «record» buffer .number) (λ z. directory-read-all-refuses t «record» buffer z .0))
+    (small isDirectoryByteStringNumber (listed directoryByteStringNumbers refl) (directoryRecordedAll t «record» buffer .number) (λ z. directory-read-all-refuses t «record» buffer z .0))
 
 pub directory-write-answer : (f : FieldSet) (buffer : List ℕ)
     → isRefusal (coded (directoryWriting editionTwo f buffer 0)) ≡ not (eqb (directoryWriting editionTwo f buffer 0 .number) 0)

@@ -16,7 +16,7 @@ use Rattle.profile.specs.Claims.{isByteStringNumber}
 use Rattle.profile.specs.declared.fields.ByteString.{ByteString}
 use Rattle.fast_path.specs.Claims.{mostBytes}
 use Rattle.directory.specs.Braced.{longestBraced}
-use Rattle.directory.specs.Entries.{hasPrefixId, directoryReading, directoryWriterNumber, directoryWriting}
+use Rattle.directory.specs.Entries.{isDirectoryId, directoryReading, directoryWriterNumber, directoryWriting}
 use Rattle.directory.specs.Claims.{isDirectoryByteStringNumber}
 use Rattle.phc.specs.Records.{recorded, recordAllLength, allOutcome, recordedAll, directoryRecordedAll, codeOf, coded, isRefusal}
 use Rattle.phc.specs.Writing.{handed, fieldsIn}
@@ -37,7 +37,8 @@ pub record PhcClaims : Type 0 where
   -- the writers never give 0: every string has a byte
   pub write-not-0 : (f : FieldSet) (buffer : List ℕ) → coded (writing editionTwo f buffer 0) ≢ 0
   pub write-short-not-0 : (k : ℕ) (salt output buffer : List ℕ) → coded (shortWriting editionTwo k salt output buffer 0) ≢ 0
-  -- a refusal is one of the reader's numbers or 17, and changes no byte; of the byte strings and the writers `Demand1` of the profile says so
+  -- a refusal is one of the reader's numbers or 17, and changes no byte; of the byte strings and the writers `Demand1` of the
+  -- profile says so, of `phc_directory_write` `DirectoryDemand1`
   pub read-refuses : (s «record» : List ℕ) → Refuses isByteStringNumber «record» (recorded s «record»)
   pub read-all-refuses : (s «record» buffer : List ℕ)
       → let all = recordedAll s «record» buffer in
@@ -57,8 +58,8 @@ pub record PhcClaims : Type 0 where
   pub directory-enough : (t «record» buffer : List ℕ) → recordAllLength ≤ length «record» → mostBytes ≤ length buffer
       → directoryRecordedAll t «record» buffer .number ≡ directoryReading editionTwo t .number
   pub directory-flag : (id flag version m t p : ℕ) (keyid «data» salt output : List ℕ) → 2 ≤ flag
-      → directoryWriterNumber editionTwo (handed id flag version m t p keyid «data» salt output) ≡ cond (hasPrefixId id) 9 24
-  -- 171 bytes are enough for every braced text
+      → directoryWriterNumber editionTwo (handed id flag version m t p keyid «data» salt output) ≡ cond (isDirectoryId id) 9 24
+  -- 171 bytes are enough for every braced text that is written
   pub directory-written-back : (t «record» buffer out : List ℕ)
       → let all = directoryRecordedAll t «record» buffer in
       let written = directoryWriting editionTwo (fieldsIn (all .«record») (all .buffer)) out 0 in

@@ -1,4 +1,4 @@
--- The fields that the exported writer is handed: as its arguments, or taken from what `phc_read_all` gave.
+-- The fields that the exported writers are handed: as their arguments, or taken from what `phc_read_all` gave.
 -- Assumes nothing.
 use Prim.Native.Nat.{ℕ, _+_, _*_}
 use mathlib.Core.Bool.{cond}
@@ -9,7 +9,8 @@ use Rattle.table.specs.declared.version.Version.{Version}
 use Rattle.table.specs.declared.version.Version.the-variants.{Absent, Number}
 use Rattle.profile.specs.Fields.{FieldSet, fieldSet}
 
--- 0 is absent, 1 is the number. Free answer: another flag is a version that no profile permits, so that the writer answers 9 (or 8 before it)
+-- 0 is absent, 1 is the number. Free answer: another flag is a version that no profile permits, so that a writer answers 9, or the
+-- number that comes before it: 8, or 24 of the directory's
 abbrev pub versionField : ℕ → ℕ → Version
 versionField flag version = cond (eqb flag 0) Absent (cond (eqb flag 1) (Number version) (Number 0))
 

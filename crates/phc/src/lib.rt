@@ -1,4 +1,4 @@
-// The profile's entries for programs in other languages: numbers and byte slices, under C names (include/phc.h).
+// The profile's and the directory's entries for programs in other languages: numbers and byte slices, under C names (include/phc.h).
 pub mod braced;
 mod code;
 mod handed;

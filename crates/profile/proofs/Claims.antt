@@ -1,28 +1,25 @@
 -- Demand 3, the agreement of the entries, lengths and lanes: over every edition that passes the tests that they take, and for edition two.
 -- Assumes nothing.
-use Prim.Native.Nat.{ℕ, _+_, _≤_}
+use Prim.Native.Nat.{ℕ, _≤_}
 use mathlib.Core.Bool.{Bool, true, not, _||_}
-use mathlib.Core.List.{List, _++_}
-use mathlib.Core.Path.{_≡_, refl, sym, _∙_, ap, subst}
+use mathlib.Core.List.{List}
+use mathlib.Core.Path.{_≡_, refl, sym, _∙_, ap}
 use native.Mathlib.Omega.{arith}
 use lib.Dec.{leb}
-use lib.ListN.{length, replicate, length-append}
+use lib.ListN.{length}
 use borrow.Author.Tests.{leb-true, le-leb, lt-leb, ltb-false}
-use Rattle.text.specs.Place.{Outcome}
 use Rattle.text.specs.Text.{every}
 use Rattle.text.proofs.Tests.{from-within, implied}
-use Rattle.text.proofs.Writing.{after-zero, after-done, over-same}
+use Rattle.text.proofs.Writing.{after-zero}
 use Rattle.grammar.specs.Pieces.{Pieces, pieces}
 use Rattle.table.specs.Limits.{Profile, lowest, highest, profileOf, editionTwo, longestPermitted}
-use Rattle.profile.specs.Fields.{FieldSet, chosen, writeBytes}
-use Rattle.profile.specs.Reader.{readerNumber, fieldsOf}
+use Rattle.profile.specs.Fields.{FieldSet, writeBytes}
+use Rattle.profile.specs.Reader.{fieldsOf}
 use Rattle.profile.specs.Writer.{Permitted, writerNumber, fieldPieces, formatted}
 use Rattle.profile.specs.Entries.{kindOf, reading, decoded, writing}
-use Rattle.profile.specs.Spelling.{Demand3, ruleSpelling, EntriesDemand3}
-use Rattle.profile.specs.Claims.{profileRules, profileEntries, EntriesAgree, Lanes, Lengths}
+use Rattle.profile.specs.Spelling.{Demand3, ruleSpelling, EntriesDemand3, EntriesAgree}
+use Rattle.profile.specs.Claims.{profileRules, profileEntries, Lanes, Lengths}
 use Rattle.profile.specs.Sound.{sound}
-use Rattle.profile.specs.declared.fields.ByteString.{ByteString}
-use Rattle.profile.specs.declared.fields.ByteString.the-variants.{Keyid, Data, Salt, Output}
 use Rattle.profile.specs.declared.fields.Reading.{Reading}
 use Rattle.profile.proofs.ReadLaws.{reading-number, reading-fields}
 use Rattle.profile.proofs.SoundLaws.{at-id, edition-two-sound}
@@ -65,7 +62,7 @@ module _ (e : List Profile) (ok : sound e ≡ true) (short : (f : FieldSet) → 
   pub entries-demand-3 : EntriesDemand3 (profileEntries e) (Permitted e)
   entries-demand-3 = demand-3-entries (profileRules e) (profileEntries e) (writerNumber e) follows (inverse e ok)
 
-  pub entries-agree : EntriesAgree e
+  pub entries-agree : EntriesAgree (profileRules e) (profileEntries e)
   unfolding writing reading
   entries-agree =
       record {
@@ -90,7 +87,7 @@ lengths =
       pbkdf2-least = λ f h k o. rw (lt-leb (f .numbers .id) 3 k) at (bounds-two f (h .column) .1 o);
     }
 
-pub entries-agree-two : EntriesAgree editionTwo
+pub entries-agree-two : EntriesAgree (profileRules editionTwo) (profileEntries editionTwo)
 entries-agree-two = entries-agree editionTwo edition-two-sound (lengths .any-most)
 
 -- an id up to 3 has at least one lane

@@ -10,7 +10,7 @@ use Rattle.text.specs.Place.{Outcome, outcome, over, putAfter}
 use Rattle.text.proofs.Writing.{after-zero, after-done, over-same}
 use Rattle.table.specs.Limits.{longestPermitted}
 use Rattle.profile.specs.Fields.{FieldSet, chosen}
-use Rattle.profile.specs.Spelling.{Spelling, Demand3, Rules, ruleSpelling, Entries, WrittenAt, WrittenTo, Carries, entrySpelling, EntriesDemand3}
+use Rattle.profile.specs.Spelling.{Spelling, Demand3, SpellingRules, ruleSpelling, SpellingEntries, WrittenAt, WrittenTo, Carries, entrySpelling, EntriesDemand3}
 use Rattle.profile.specs.declared.fields.ByteString.{ByteString}
 use Rattle.profile.specs.declared.fields.ByteString.the-variants.{Keyid, Data, Salt, Output}
 
@@ -44,11 +44,11 @@ demand-3-of w h =
 -- ---- by rules
 
 -- the fields of an accepted text are permitted and are written to it; permitted fields are written to an accepted text that carries them
-pub record Inverse (r : Rules) : Type 0 where
+pub record Inverse (r : SpellingRules) : Type 0 where
   pub accepted : (s : List ℕ) → r .number s ≡ 0 → r .Permitted (r .fields s) × (r .formatted (r .fields s) ≡ s)
   pub written : (f : FieldSet) → r .Permitted f → (r .number (r .formatted f) ≡ 0) × (r .fields (r .formatted f) ≡ f)
 
-pub demand-3-rules : (r : Rules) → Inverse r → Demand3 (ruleSpelling r)
+pub demand-3-rules : (r : SpellingRules) → Inverse r → Demand3 (ruleSpelling r)
 demand-3-rules r h =
     demand-3-of (ruleSpelling r)
     (record {
@@ -64,7 +64,7 @@ demand-3-rules r h =
 -- ---- by entries
 
 -- entries that give what rules say, with a refusal's number for each set of fields
-pub record Follows (r : Rules) (n : Entries) (refusal : FieldSet → ℕ) : Type 0 where
+pub record Follows (r : SpellingRules) (n : SpellingEntries) (refusal : FieldSet → ℕ) : Type 0 where
   pub reading-number : (s : List ℕ) → n .reading s .number ≡ r .number s
   pub reading-fields : (s : List ℕ) → r .number s ≡ 0 → n .reading s .fields ≡ r .fields s .numbers
   pub decoded-is : (c : ByteString) (s buffer : List ℕ) (at : ℕ) → n .decoded c s buffer at ≡ putAfter (r .number s) buffer at (chosen c (r .fields s))
@@ -76,7 +76,7 @@ pub record Follows (r : Rules) (n : Entries) (refusal : FieldSet → ℕ) : Type
 abbrev wide : List ℕ
 wide = replicate longestPermitted 0
 
-module _ (r : Rules) (n : Entries) (refusal : FieldSet → ℕ) (w : Follows r n refusal) where
+module _ (r : SpellingRules) (n : SpellingEntries) (refusal : FieldSet → ℕ) (w : Follows r n refusal) where
   decodes : (c : ByteString) (s buffer : List ℕ) (at : ℕ) → r .number s ≡ 0 → at + length (chosen c (r .fields s)) ≤ length buffer
       → n .decoded c s buffer at ≡ outcome 0 (length (chosen c (r .fields s))) (over buffer at (chosen c (r .fields s)))
   decodes c s buffer at z l = w .decoded-is c s buffer at ∙ after-done (r .number s) buffer at (chosen c (r .fields s)) z l

@@ -1,7 +1,8 @@
 -- The promises: the record `Promises`, at the end, says what is proved of document 01's table, and proofs/Promises.antt has its one value. Its
--- parts stand above it, over any edition where they can be; `Demand3` and `EntriesDemand3` stand in specs/Spelling.antt.
+-- parts stand above it, over any edition where they can be; `Demand3`, `EntriesDemand3` and
+-- `EntriesAgree` stand in specs/Spelling.antt.
 -- Assumes nothing.
-use Prim.Native.Nat.{ℕ, _+_, _*_, _≤_}
+use Prim.Native.Nat.{ℕ, _*_, _≤_}
 use Prim.Native.String.{String}
 use mathlib.Core.Path.{_≡_}
 use mathlib.Core.Bool.{Bool, true, false, _||_}
@@ -10,15 +11,15 @@ use mathlib.Core.Logic.{_≢_}
 use lib.Dec.{eqb}
 use lib.ListN.{length}
 use Rattle.text.specs.Text.{text, within, all, has, empty, isByte}
-use Rattle.text.specs.Place.{outcome, over, Refuses}
+use Rattle.text.specs.Place.{Refuses}
 use Rattle.grammar.specs.Claims.{GrammarRefusals}
-use Rattle.table.specs.Limits.{Profile, editionTwo, longestPermitted}
+use Rattle.table.specs.Limits.{Profile, editionTwo}
 use Rattle.table.specs.declared.version.Version.the-variants.{Absent, Number}
-use Rattle.profile.specs.Fields.{FieldSet, fieldSet, chosen, writeBytes}
+use Rattle.profile.specs.Fields.{FieldSet, fieldSet}
 use Rattle.profile.specs.Reader.{readerNumber, fieldsOf}
-use Rattle.profile.specs.Writer.{OfBytes, Permitted, formatted, shortFields, shortWriterNumber}
-use Rattle.profile.specs.Entries.{refusedReading, reading, kindOf, algorithmVersion, decoded, writing, shortWriting}
-use Rattle.profile.specs.Spelling.{Demand3, Rules, ruleSpelling, Entries, WrittenAt, Carries, EntriesDemand3}
+use Rattle.profile.specs.Writer.{Permitted, formatted, shortFields, shortWriterNumber}
+use Rattle.profile.specs.Entries.{refusedReading, reading, algorithmVersion, decoded, writing, shortWriting}
+use Rattle.profile.specs.Spelling.{Demand3, SpellingRules, ruleSpelling, SpellingEntries, EntriesDemand3, EntriesAgree}
 use Rattle.profile.specs.Strings.{boundaryStrings, extremes}
 use Rattle.profile.specs.declared.fields.ByteString.{ByteString}
 
@@ -62,27 +63,14 @@ pub record Demand1 (e : List Profile) : Type 0 where
 
 -- ---- demand 3
 
--- the rules of an edition; and its profile reader, byte-string entry and writer. By `EntriesAgree` a call of the writer with less room than
--- demand 3 names that answers 0 writes the same string
-abbrev pub profileRules : List Profile → Rules
+-- the rules of an edition; and its profile reader, byte-string entry and writer
+abbrev pub profileRules : List Profile → SpellingRules
 profileRules e = record { number = readerNumber e; fields = fieldsOf e; Permitted = Permitted e; formatted = formatted e }
 
-abbrev pub profileEntries : List Profile → Entries
+abbrev pub profileEntries : List Profile → SpellingEntries
 profileEntries e = record { reading = reading e; decoded = decoded e; writing = writing e }
 
--- ---- the entries among each other
-
--- fields that are written are read back
-pub record EntriesAgree (e : List Profile) : Type 0 where
-  -- the writer answers 0 exactly for permitted fields whose string fits, and what it wrote is that string
-  pub writes : (f : FieldSet) → Permitted e f → (buffer : List ℕ) (at : ℕ) → at + length (formatted e f) ≤ length buffer
-      → WrittenAt (profileEntries e) f (formatted e f) buffer at
-  pub writes-only : (f : FieldSet) → OfBytes f → (buffer : List ℕ) (at : ℕ) → writing e f buffer at .number ≡ 0
-      → Permitted e f × (at + length (formatted e f) ≤ length buffer)
-  -- the reader and the byte-string entry give those nine fields back
-  pub reads : (f : FieldSet) → Permitted e f
-      → reading e (formatted e f) ≡ record { number = 0; kind = kindOf (writeBytes (f .salt)) (writeBytes (f .output)); fields = f .numbers }
-  pub carries : (f : FieldSet) → Permitted e f → Carries (profileEntries e) (formatted e f) f
+-- ---- the short writer
 
 -- the short writer gives what the writer gives for its defaults, no keyid and no data; and where it writes, these are permitted
 pub record ShortAgrees (e : List Profile) : Type 0 where
@@ -135,7 +123,7 @@ pub record Promises : Type 0 where
   pub demand-1 : Demand1 editionTwo
   pub demand-3 : Demand3 (ruleSpelling (profileRules editionTwo))
   pub entries-demand-3 : EntriesDemand3 (profileEntries editionTwo) (Permitted editionTwo)
-  pub entries-agree : EntriesAgree editionTwo
+  pub entries-agree : EntriesAgree (profileRules editionTwo) (profileEntries editionTwo)
   pub short-agrees : ShortAgrees editionTwo
   pub short-fields : ShortFields
   pub algorithm-versions : AlgorithmVersions

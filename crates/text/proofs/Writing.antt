@@ -132,18 +132,6 @@ after-number n buffer bytes h = go (eqb n 0) refl
         ap (λ (o : Outcome). o .number) (after-done n buffer 0 bytes z (omega (arith, h z))) ∙ sym z
     go false t = sym (ap (λ (o : Outcome). o .number) (put-refused buffer 0 bytes n n refl (omega (arith, eqb-false n 0 t))))
 
--- bytes of one length are put with one number and one count
-pub after-same : (n k : ℕ) → n ≡ 0 → k ≡ 0 → (x y buffer : List ℕ) (at : ℕ) → length x ≡ length y
-    → (putAfter n buffer at x .number ≡ putAfter k buffer at y .number) × (putAfter n buffer at x .count ≡ putAfter k buffer at y .count)
-unfolding putAfter put
-after-same n k z w x y buffer at l = rw (z, w, l) (go (leb (at + length y) (length buffer)) _ _)
-  where
-    go : (b : Bool) (u v : List ℕ)
-        → (cond b (outcome 0 (length y) u) (refused 17 buffer) .number ≡ cond b (outcome 0 (length y) v) (refused 17 buffer) .number)
-        × (cond b (outcome 0 (length y) u) (refused 17 buffer) .count ≡ cond b (outcome 0 (length y) v) (refused 17 buffer) .count)
-    go true u v = (refl, refl)
-    go false u v = (refl, refl)
-
 -- a refusal is the earlier number's, or 17
 pub after-refuses : (own : ℕ → Bool) (n : ℕ) (buffer : List ℕ) (at : ℕ) (bytes : List ℕ) → ((n ≡ 0 → ⊥) → own n ≡ true) → own 17 ≡ true
     → Refuses own buffer (putAfter n buffer at bytes)

@@ -10,12 +10,12 @@ use denote.Ref.{now}
 use lib.ListN.{take, drop}
 use Rattle.text.specs.Place.{outcome, put}
 use Rattle.profile.specs.Fields.{FieldSet, fieldSet}
-use Rattle.directory.specs.Entries.{hasPrefixId}
+use Rattle.directory.specs.Entries.{isDirectoryId}
 use Rattle.directory.proofs.WriterLaws.{write-other, write-refused, count-most, write-alone, write-done}
 use Rattle.directory.proofs.writer.write.Statement.{statement}
 use Rattle.directory.proofs.writer.write.Tie as tie
 
-abbrev start : tie.After-has-prefix-id → tie.Start
+abbrev start : tie.After-is-directory-id → tie.Start
 start c = c .before .before .before .before .before .before
 
 abbrev fields : tie.Start → FieldSet
@@ -24,15 +24,15 @@ fields s = fieldSet (s .args .n) (now (s .args .keyid)) (now (s .args .«data»)
 abbrev at-write : tie.After-write → tie.Start
 at-write c = start (c .before .before .before)
 
-of-two : (c : tie.After-write) → hasPrefixId (fields (at-write c) .numbers .id) ≡ true
-of-two c = let e = c .before .before in sym (e .before .has-prefix-id .ensures) ∙ not-false _ (e .if1 .left)
+of-two : (c : tie.After-write) → isDirectoryId (fields (at-write c) .numbers .id) ≡ true
+of-two c = let e = c .before .before in sym (e .before .is-directory-id .ensures) ∙ not-false _ (e .if1 .left)
 
 returns : tie.Need-returns
 returns c =
     let t = c .before in
     let s = start (t .before) in
     (λ i. outcome (c .refused .ensures .0 i) (c .refused .ensures .1 i) (now (s .args .buf)))
-    ∙ write-other (fields s) (now (s .args .buf)) (s .args .at) (sym (t .before .has-prefix-id .ensures) ∙ not-true _ (t .if1 .taken))
+    ∙ write-other (fields s) (now (s .args .buf)) (s .args .at) (sym (t .before .is-directory-id .ensures) ∙ not-true _ (t .if1 .taken))
 
 returns-2 : tie.Need-returns-2
 returns-2 c =
