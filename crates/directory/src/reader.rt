@@ -18,7 +18,7 @@ ghost use Rattle.table.specs.Limits.{editionTwo};
 ghost use Rattle.directory.specs.Entries.{directoryNumber, directoryReading, directoryDecoded, directoryAllDecoded, directoryContents};
 ghost use Rattle.directory.specs.BracedSteps.{isBraced, RefusalIs};
 
-// The number of a braced text of any length. A text longer than any string is not looked at.
+// The number of a braced text of any length. After the prefix a text longer than any string is not looked at.
 fn long_number(t: &[u8]) -> u8
     requires { ⌜ isBraced (now t) ≡ true ⌝ }
     ensures { λ r. ⌜ r ≡ directoryNumber editionTwo (now (t .entry)) ⌝ }
