@@ -4,7 +4,7 @@ use Prim.Native.Nat.{ℕ, _+_, _≤_, _<_}
 use mathlib.Core.Bool.{Bool, true, false, not, cond, _||_, and-true, and-false, true≢false, false≢true}
 use mathlib.Core.List.{List, _++_, append-assoc}
 use mathlib.Core.Logic.{_⊎_, inl, inr}
-use mathlib.Core.Option.{Option, none, some}
+use mathlib.Core.Option.{none, some, Option·some-injective}
 use mathlib.Core.Path.{_≡_, refl, _∙_, ap}
 use native.Mathlib.Omega.{arith}
 use lib.ListN.{length, take, drop, set, length-append, length-drop, drop-of-length-le}
@@ -26,13 +26,10 @@ pub record Differ (from to t u : List ℕ) : Type 0 where
   pub left : t ≡ from ++ rest
   pub right : u ≡ to ++ rest
 
-pub differ-of : (from to t : List ℕ) → goesOnAfter from t ≡ true → Differ from to t (to ++ drop (length from) t)
+differ-of : (from to t : List ℕ) → goesOnAfter from t ≡ true → Differ from to t (to ++ drop (length from) t)
 differ-of from to t h =
     let p = both (startsWith from t) (not (empty (drop (length from) t))) h in
     record { rest = drop (length from) t; more = is-false (empty (drop (length from) t)) (p .1); left = starts-is from t (p .0); right = refl }
-
-some-of : {A : Type 0} {x y : A} → _≡_ {A = Option A} (some x) (some y) → x ≡ y
-some-of {A} {x} {y} e = cc
 
 -- ---- two prefixes, of which no text has both
 
@@ -46,8 +43,8 @@ module _ (a b c d : List ℕ) where
     where
       go : (x : Bool) → goesOnAfter a t ≡ x → (y : Bool) → goesOnAfter c t ≡ y
           → orElse (cond x (some (b ++ drop (length a) t)) none) (cond y (some (d ++ drop (length c) t)) none) ≡ some u → Differ a b t u ⊎ Differ c d t u
-      go true p y q h = let e : b ++ drop (length a) t ≡ u = some-of h in inl (rw (← e) (differ-of a b t p))
-      go false p true q h = let e : d ++ drop (length c) t ≡ u = some-of h in inr (rw (← e) (differ-of c d t q))
+      go true p y q h = let e : b ++ drop (length a) t ≡ u = Option·some-injective (b ++ drop (length a) t) u h in inl (rw (← e) (differ-of a b t p))
+      go false p true q h = let e : d ++ drop (length c) t ≡ u = Option·some-injective (d ++ drop (length c) t) u h in inr (rw (← e) (differ-of c d t q))
       go false p false q h = let z : _≡_ {A = ℕ} 0 1 = cc in absurd (omega arith)
 
   -- back again, where no text that has the second prefix has the first

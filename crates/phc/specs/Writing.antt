@@ -1,4 +1,5 @@
--- The fields that the exported writers are handed: as their arguments, or taken from what `phc_read_all` gave.
+-- The fields that the exported writers are handed: as their arguments, or taken from what `phc_read_all` or
+-- `phc_directory_read_all` gave.
 -- Assumes nothing.
 use Prim.Native.Nat.{ℕ, _+_, _*_}
 use mathlib.Core.Bool.{cond}
