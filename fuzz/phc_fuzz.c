@@ -1,6 +1,7 @@
 /* A libFuzzer target for the C interface: what its functions say of the same bytes must agree (README.md lists the facts).
  *
- * An input ends in a tail: how much room is lent, how it is lent, and whether the bytes before it are a text to read or fields to write.
+ * An input ends in a tail: how much room is lent, how it is lent, and whether the bytes before it are a text to read, fields to write or
+ * account text to judge.
  */
 #include "phc.h"
 
@@ -30,8 +31,8 @@ static uint8_t *area_start[AREAS];
 
 /* From the input's tail. */
 static struct {
-    size_t record, buffer, written;
-    int at_start, null_if_empty, fields;
+    size_t record, buffer, written, from, limit;
+    int at_start, null_if_empty, fields, accounts;
     uint8_t fill;
 } tail;
 
@@ -355,6 +356,83 @@ static void write_input(const uint8_t *data, size_t size) {
     }
 }
 
+/* Account text. */
+
+#define LONGEST_LINE 512
+#define LONGEST_NAME 32
+
+/* The bytes of the line that begins a text, without its line feed. */
+static size_t line_len(const uint8_t *text, size_t len) {
+    const uint8_t *feed = len == 0 ? NULL : memchr(text, '\n', len);
+    return feed == NULL ? len : (size_t)(feed - text);
+}
+
+/* The number of a line, from what phc_read says of its string. */
+static uint8_t line_number(const uint8_t *line, size_t len) {
+    if (len > LONGEST_LINE) return 18;
+    size_t name = 0;
+    while (name < len && (('a' <= line[name] && line[name] <= 'z') || ('0' <= line[name] && line[name] <= '9') || line[name] == '-')) name++;
+    if (name == 0 || name > LONGEST_NAME || name == len || line[name] != '\t') return 19;
+    uint8_t record[PHC_RECORD];
+    return (uint8_t)phc_read(line + name + 1, len - name - 1, record, sizeof record);
+}
+
+struct batch {
+    size_t place, count;
+    uint8_t numbers[AREA];
+};
+
+/* What is to be judged of a text, whatever the room. */
+static void batch_of(struct batch *batch, const uint8_t *text, size_t len, size_t from, size_t limit) {
+    batch->place = from < len ? from : len;
+    batch->count = 0;
+    while (batch->count < limit && batch->place < len) {
+        const uint8_t *line = text + batch->place;
+        size_t count = line_len(line, len - batch->place);
+        batch->numbers[batch->count++] = line_number(line, count);
+        batch->place += count;
+        /* The last line may have no line feed to go past. */
+        if (batch->place < len) batch->place++;
+    }
+}
+
+/* One call; its answers and its result are the batch's, or it gives 17 because one of the two doesn't fit. */
+static void check_judge(const struct lent *text, const uint8_t *bytes, size_t from, size_t limit, size_t room, size_t result_room,
+                        struct batch *batch) {
+    batch_of(batch, bytes, text->len, from, limit);
+    uint8_t expected[PHC_BATCH] = {0};
+    put_number(expected, (uint32_t)batch->place);
+    put_number(expected + 8, (uint32_t)batch->count);
+    struct lent answers = lend(BUFFER, room), result = lend(RECORD, result_room);
+    uint64_t number = batch->count > room || result_room < PHC_BATCH ? 17 : 0;
+    CHECK(phc_judge(text->ptr, text->len, from, limit, answers.ptr, answers.len, result.ptr, result.len) == number);
+    check_holds(&answers, batch->numbers, number != 0 ? 0 : batch->count);
+    check_holds(&result, expected, number != 0 ? 0 : PHC_BATCH);
+}
+
+/* Judges account text over all, with the input's place, limit and rooms, and in batches: these have the answers of one call over all. */
+static void judge_input(const uint8_t *bytes, size_t len) {
+    static struct batch all, batch;
+    struct lent text = lend_bytes(STRING, bytes, len);
+    check_judge(&text, bytes, tail.from, tail.limit, tail.buffer, tail.record, &batch);
+
+    batch_of(&all, bytes, len, 0, SIZE_MAX);
+    check_judge(&text, bytes, 0, SIZE_MAX, all.count, PHC_BATCH, &all);
+    CHECK(all.place == len);
+    if (all.count != 0) check_judge(&text, bytes, 0, SIZE_MAX, all.count - 1, PHC_BATCH, &batch);
+
+    size_t place = 0, joined = 0;
+    for (size_t calls = 0; place < len; calls++) {
+        CHECK(calls < all.count);
+        size_t limit = 1 + (tail.limit + calls) % (tail.buffer + 1);
+        check_judge(&text, bytes, place, limit, limit, PHC_BATCH, &batch);
+        CHECK(joined + batch.count <= all.count && memcmp(all.numbers + joined, batch.numbers, batch.count) == 0);
+        joined += batch.count, place = batch.place;
+    }
+    CHECK(joined == all.count);
+    check_holds(&text, bytes, len);
+}
+
 int LLVMFuzzerInitialize(int *argc, char ***argv) {
     (void)argc, (void)argv;
     size_t page = (size_t)sysconf(_SC_PAGESIZE);
@@ -380,12 +458,17 @@ int LLVMFuzzerTestOneInput(const uint8_t *data, size_t size) {
     tail.record = end[0] % 48;
     tail.buffer = end[1] % 192;
     tail.written = (end[2] + 256u * end[3]) % 320;
+    tail.from = end[2] == 255 ? SIZE_MAX : end[2];
+    tail.limit = end[3] == 255 ? SIZE_MAX : end[3];
     tail.at_start = end[4] & 1;
     tail.null_if_empty = end[4] >> 1 & 1;
     tail.fields = end[4] >> 2 & 1;
+    tail.accounts = end[4] >> 3 & 1;
     tail.fill = end[5];
     if (tail.fields) {
         write_input(data, size);
+    } else if (tail.accounts) {
+        judge_input(data, size);
     } else {
         struct fields f;
         read_text(data, size, &f);

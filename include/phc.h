@@ -1,10 +1,10 @@
-/* PHC strings of the profiles argon2d, argon2i, argon2id, pbkdf2s2 and pbkdf2s3, read and written.
+/* PHC strings of the profiles argon2d, argon2i, argon2id, pbkdf2s2 and pbkdf2s3, read and written; and account text judged.
  *
  * Any bytes may be handed over. Each pointer is valid for its length; NULL with the length 0 is an empty slice. A buffer that is written
  * must not overlap any other argument.
  * Strings are bytes with a length and no end mark: a length counts no NUL and no line feed (either would be part of the string, which is
- * then refused), and no NUL is written after what a function writes.
- * A refusal is a number from 1 to 99, one of README.md, 'The numbers', and changes no byte; no other answer lies in that range.
+ * then refused; only account text has line feeds), and no NUL is written after what a function writes.
+ * A refusal is a return value from 1 to 99, one of README.md, 'The numbers', and changes no byte; no other return value lies in that range.
  */
 #ifndef PHC_H
 #define PHC_H
@@ -26,6 +26,9 @@ extern "C" {
 
 /* The most bytes that the four byte strings of a string have together. */
 #define PHC_BYTES 152
+
+/* The bytes of phc_judge's result. */
+#define PHC_BATCH 16
 
 /* Reads a string. 0, and the first 20 bytes of the record are
  *      0  kind: 1 parameters, 2 salt, 3 hash
@@ -94,6 +97,22 @@ uint64_t phc_directory_write(uint8_t id, uint8_t has_version, uint32_t version, 
                              const uint8_t *keyid, size_t keyid_len, const uint8_t *data, size_t data_len,
                              const uint8_t *salt, size_t salt_len, const uint8_t *output, size_t output_len,
                              uint8_t *buf, size_t buf_len);
+
+/* Account text has one account a line: name, tab, string. A line ends at a line feed; a last line without one counts if it has any byte. */
+
+/* Judges the lines of account text in batches: at most `limit` of those from the place `from` on, in order. 0, and the number of each judged
+ * line stands in `answers` from its start: 18 for a line of more than 512 bytes, its line feed not counted; then 19 for one without a tab or whose
+ * name is not 1 to 32 of a..z, 0..9, minus; else what phc_read says of its string, all after its first tab: 1 to 15, or 0 where it is accepted.
+ * The first 16 bytes of the result are
+ *      0  the place to go on from, counted from the text's start; the text's length where no line is left
+ *      8  the count of lines judged: the smaller of `limit` and the lines there
+ * as 64-bit little-endian numbers. Answers past the count are as they were.
+ * Else 17 where that count is more than answers_len or the result has fewer than 16 bytes; nothing is judged then, and both are as they were.
+ * Begin from 0, and go on from the place while it is less than text_len: with limits of at least 1 and room the answers, joined, are those of one
+ * call over all. A limit of 0 judges none, and the place is where it began. A place past the text's end is as the end; from a place inside a
+ * line the rest of it is judged as a line. No byte past the judged lines is read, and where it gives 17 none past the lines that have room. */
+uint64_t phc_judge(const uint8_t *text, size_t text_len, size_t from, size_t limit, uint8_t *answers, size_t answers_len,
+                   uint8_t *result, size_t result_len);
 
 #ifdef __cplusplus
 }

@@ -1,5 +1,6 @@
 //! Compares the library, through its C interface, with the plain rules of `reference.rs`.
 
+mod batches;
 mod chance;
 mod fields;
 mod lent;
@@ -838,14 +839,14 @@ fn main() {
     long_strings(&mut run);
     buffers(&mut run);
     good_strings(&mut run);
+    batches::batches(&mut run);
 
     println!("{} cases compared", run.cases);
-    for spelling in SPELLINGS {
-        for (entry, what) in [(spelling.reader, "accepted"), (spelling.writer, "written")] {
-            let numbers = &run.seen[entry].numbers;
-            let refusals = (1..numbers.len()).filter(|row| numbers[*row] > 0).map(|row| format!(", {} with {row}", numbers[row]));
-            println!("{entry}: {} {what}{}", numbers[0], refusals.collect::<String>());
-        }
+    let shown = SPELLINGS.into_iter().flat_map(|spelling| [(spelling.reader, "accepted"), (spelling.writer, "written")]);
+    for (entry, what) in shown.chain([(batches::CALLS, "batches"), (batches::LINES, "accepted")]) {
+        let numbers = &run.seen[entry].numbers;
+        let refusals = (1..numbers.len()).filter(|row| numbers[*row] > 0).map(|row| format!(", {} with {row}", numbers[row]));
+        println!("{entry}: {} {what}{}", numbers[0], refusals.collect::<String>());
     }
     println!("{} texts of more than {GRAMMAR_ROOM} bytes among them, the longest of {}", run.past_grammar, run.longest_read);
     println!("{} good strings and {} good braced texts more, all accepted", run.good, run.good_braced);
@@ -853,7 +854,8 @@ fn main() {
     // A run that leaves a rule out shows nothing of it.
     assert!(run.cases >= 1_000_000 && run.good >= GOOD && run.good_braced > GOOD / 3, "too few cases");
     let reader: Vec<usize> = (0..=15).chain([17]).collect();
-    let entries: [(&str, &[usize]); 11] = [
+    let line: Vec<usize> = (0..=15).chain([18, 19]).collect();
+    let entries: [(&str, &[usize]); 13] = [
         ("phc_read", &reader),
         ("phc_read_all", &reader),
         ("phc_keyid", &reader),
@@ -866,6 +868,8 @@ fn main() {
         // A prefix names an id, so 2 and 8 are none of its numbers.
         ("phc_directory_read_all", &[0, 1, 3, 4, 5, 6, 7, 9, 10, 11, 12, 13, 14, 15, 17, 24]),
         ("phc_directory_write", &[0, 9, 11, 12, 14, 15, 16, 17, 24]),
+        (batches::CALLS, &[0, 17]),
+        (batches::LINES, &line),
     ];
     for (entry, rows) in entries {
         for (number, times) in run.seen[entry].numbers.iter().enumerate() {

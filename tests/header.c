@@ -12,12 +12,14 @@ _Static_assert(PHC_DIRECTORY_ROOM == 171, "the longest braced text");
 _Static_assert(PHC_RECORD == 20, "kind, id, flag, 0 and four numbers");
 _Static_assert(PHC_RECORD_ALL == PHC_RECORD + 16, "and four counts");
 _Static_assert(PHC_BYTES == 8 + 32 + 48 + 64, "keyid, data, salt and output");
+_Static_assert(PHC_BATCH == 8 + 8, "place and count");
 
 int main(void) {
     static const uint8_t string[] = "$pbkdf2s2$AAAAAA$AAAAAAAAAAAAAAAA";
     static const uint8_t braced[] = "{pbkdf2s2}AAAAAA$AAAAAAAAAAAAAAAA";
     static const uint8_t absent[] = "$argon2i$m=8,t=1,p=1";
-    uint8_t record[PHC_RECORD_ALL], bytes[PHC_BYTES], again[PHC_ROOM];
+    static const uint8_t accounts[] = "ana\t$pbkdf2s2\nbo\t$argon2i$m=8,t=1,p=0\n\n";
+    uint8_t record[PHC_RECORD_ALL], bytes[PHC_BYTES], again[PHC_ROOM], answers[2], result[PHC_BATCH];
     /* A length counts no NUL, and is the same in both spellings. */
     const size_t len = sizeof string - 1;
 
@@ -42,5 +44,11 @@ int main(void) {
         || record[0] != 3 || record[1] != 4 || record[28] != 4 || record[32] != 12
         || phc_directory_write(4, 0, 0, 0, 20000, 0, NULL, 0, NULL, 0, bytes, 4, bytes + 4, 12, again, sizeof again) != 100 * len
         || memcmp(again, braced, len) != 0
-        || phc_directory_write(4, 0, 0, 0, 20000, 0, NULL, 0, NULL, 0, NULL, 0, NULL, 0, again, sizeof again) != 24;
+        || phc_directory_write(4, 0, 0, 0, 20000, 0, NULL, 0, NULL, 0, NULL, 0, NULL, 0, again, sizeof again) != 24
+        || phc_judge(accounts, sizeof accounts - 1, 0, 2, answers, sizeof answers, result, sizeof result) != 0
+        || answers[0] != 0 || answers[1] != 11 || result[0] != 38 || result[8] != 2
+        || phc_judge(accounts, sizeof accounts - 1, result[0], 2, answers, sizeof answers, result, sizeof result) != 0
+        || answers[0] != 19 || answers[1] != 11 || result[0] != sizeof accounts - 1 || result[8] != 1
+        || phc_judge(accounts, sizeof accounts - 1, 0, SIZE_MAX, answers, sizeof answers, result, sizeof result) != 17
+        || phc_judge(NULL, 0, 0, SIZE_MAX, NULL, 0, result, sizeof result - 1) != 17;
 }

@@ -1,5 +1,5 @@
 #!/bin/sh
-# The C header: compiled as C and as C++ against the proved library, and strings lent whose end can't be read. It needs a C and a C++ compiler.
+# The C header: compiled as C and as C++ against the proved library, and texts lent whose end can't be read. It needs a C and a C++ compiler.
 set -e
 cd "$(dirname "$0")/.."
 rt staticlib phc

@@ -6,6 +6,7 @@ pub const PHC_DIRECTORY_ROOM: usize = 171;
 pub const PHC_RECORD: usize = 20;
 pub const PHC_RECORD_ALL: usize = 36;
 pub const PHC_BYTES: usize = 152;
+pub const PHC_BATCH: usize = 16;
 
 pub type StringEntry = unsafe extern "C" fn(*const u8, usize, *mut u8, usize) -> u64;
 pub type ReadAllEntry = unsafe extern "C" fn(*const u8, usize, *mut u8, usize, *mut u8, usize) -> u64;
@@ -41,5 +42,9 @@ extern "C" {
         keyid: *const u8, keyid_len: usize, data: *const u8, data_len: usize,
         salt: *const u8, salt_len: usize, output: *const u8, output_len: usize,
         buf: *mut u8, buf_len: usize,
+    ) -> u64;
+    pub fn phc_judge(
+        text: *const u8, text_len: usize, from: usize, limit: usize, answers: *mut u8, answers_len: usize,
+        result: *mut u8, result_len: usize,
     ) -> u64;
 }

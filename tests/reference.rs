@@ -1,4 +1,4 @@
-//! The rules for PHC strings of five profiles, written a second time and plainly, to compare the library with.
+//! The rules for PHC strings of five profiles and for account text, written a second time and plainly, to compare the library with.
 
 use std::ops::RangeInclusive;
 
@@ -349,6 +349,39 @@ pub fn directory_write(fields: &Fields) -> Result<Vec<u8>, u8> {
     let s = write(fields)?;
     // Nothing is found for the id alone.
     DIRECTORY.iter().find_map(|(dollar, brace)| respelled(&s, dollar, brace)).ok_or(24)
+}
+
+// Account text, rows 18 and 19.
+
+/// The most bytes of a line, its line feed not counted.
+const LINE_LEN: usize = 512;
+
+/// The lines, each with the line feed that ends it; the last may have none.
+pub fn lines(text: &[u8]) -> impl Iterator<Item = &[u8]> {
+    text.split_inclusive(|c| *c == b'\n')
+}
+
+/// The number of a line.
+pub fn line_number(line: &[u8]) -> u8 {
+    let line = line.strip_suffix(b"\n").unwrap_or(line);
+    if line.len() > LINE_LEN {
+        return 18;
+    }
+    match line.iter().position(|c| *c == b'\t') {
+        Some(tab) if is_name(&line[..tab]) => read(&line[tab + 1..]).err().unwrap_or(0),
+        _ => 19,
+    }
+}
+
+/// Of at most `limit` lines from the place `from` on: the place to go on from, and their numbers; or 17 where they are more than the room.
+pub fn judge(text: &[u8], from: usize, limit: usize, room: usize) -> Result<(usize, Vec<u8>), u8> {
+    let from = from.min(text.len());
+    let judged: Vec<&[u8]> = lines(&text[from..]).take(limit).collect();
+    if judged.len() > room {
+        return Err(17);
+    }
+    let place = from + judged.iter().map(|line| line.len()).sum::<usize>();
+    Ok((place, judged.into_iter().map(line_number).collect()))
 }
 
 /// Row 17: the bytes, if a buffer of this room takes them.

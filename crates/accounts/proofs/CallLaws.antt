@@ -2,15 +2,15 @@
 -- the cuts fall.
 -- Assumes nothing.
 use Prim.Native.Nat.{ℕ, zero, suc, _+_, _<_}
-use mathlib.Core.Bool.{Bool, true, false, cond, _||_, true≢false, false≢true}
-use mathlib.Core.List.{List, [], _∷_, _++_, append-nil}
+use mathlib.Core.Bool.{Bool, true, false, cond}
+use mathlib.Core.List.{List, [], _∷_, _++_}
 use mathlib.Core.Path.{_≡_, refl, sym, ap, _∙_}
 use native.Mathlib.Omega.{arith}
 use lib.Dec.{eqb}
 use lib.ListN.{length, take, drop, length-take, length-drop}
-use lib.Seq.{append-snoc, take-take}
+use lib.Seq.{take-take}
 use borrow.Author.Tests.{leb-true, le-leb}
-use Rattle.text.specs.Text.{lineFeed, has, find, cut, cutByte, concat}
+use Rattle.text.specs.Text.{lineFeed, has, find, cut, concat}
 use Rattle.text.specs.Place.{outcome, hasRoom, over, put}
 use Rattle.text.proofs.Lists.{has-append, cut-free, cut-whole, take-free}
 use Rattle.text.proofs.Splitting.{find-inside, cut-past}
@@ -23,30 +23,8 @@ use Rattle.accounts.specs.Feeding.{heldOf, Fed, fed, nextFed, endPut, Ca
 use Rattle.accounts.specs.declared.line.Answer.{Answer}
 use Rattle.accounts.specs.declared.listing.Listed.{Listed}
 use Rattle.accounts.specs.declared.listing.Listed.the-variants.{Row, UsedUp, NoRoom}
+use Rattle.accounts.proofs.TextLines.{from-plain, from-line}
 use Rattle.accounts.proofs.LineLaws.{answer-long}
-
--- ---- lines
-
--- bytes without a line feed only make the first line longer
-pub from-plain : (s u t : List ℕ) → has lineFeed s ≡ false → linesFrom u (s ++ t) ≡ linesFrom (u ++ s) t
-from-plain [] u t h = ap (λ (v : List ℕ). linesFrom v t) (sym (append-nil u))
-from-plain (a ∷ s) u t h = go (eqb a lineFeed) (from-plain s (u ++ (a ∷ [])) t) h
-  where
-    go : (q : Bool) → (has lineFeed s ≡ false → linesFrom (u ++ (a ∷ [])) (s ++ t) ≡ linesFrom (u ++ (a ∷ []) ++ s) t) → (q || has lineFeed s) ≡ false
-        → cond q (u ∷ linesFrom [] (s ++ t)) (linesFrom (u ++ (a ∷ [])) (s ++ t)) ≡ linesFrom (u ++ (a ∷ s)) t
-    go true i h = absurd (true≢false h)
-    go false i h = i h ∙ ap (λ (v : List ℕ). linesFrom v t) (append-snoc u a s)
-
--- a first line that has its line feed
-from-line : (s u t : List ℕ) → has lineFeed s ≡ true → linesFrom u (s ++ t) ≡ (u ++ cut lineFeed s .0) ∷ linesFrom [] (cut lineFeed s .1 ++ t)
-from-line [] u t h = absurd (false≢true h)
-from-line (a ∷ s) u t h = go (eqb a lineFeed) (from-line s (u ++ (a ∷ [])) t) h
-  where
-    go : (q : Bool) → (has lineFeed s ≡ true → linesFrom (u ++ (a ∷ [])) (s ++ t) ≡ (u ++ (a ∷ []) ++ cut lineFeed s .0) ∷ linesFrom [] (cut lineFeed s .1 ++ t)) → (q || has lineFeed s) ≡ true
-        → cond q (u ∷ linesFrom [] (s ++ t)) (linesFrom (u ++ (a ∷ [])) (s ++ t))
-        ≡ (u ++ cutByte q a s (cut lineFeed s) .0) ∷ linesFrom [] (cutByte q a s (cut lineFeed s) .1 ++ t)
-    go true i h = ap (λ (v : List ℕ). v ∷ linesFrom [] (s ++ t)) (sym (append-nil u))
-    go false i h = i h ∙ ap (λ (v : List ℕ). v ∷ linesFrom [] (cut lineFeed s .1 ++ t)) (append-snoc u a (cut lineFeed s .0))
 
 -- ---- a line is judged by its first `mostKept` bytes
 

@@ -1,11 +1,11 @@
--- 'One account a line: name, tab, string. A line ends at a line feed; a last line without one counts if it has any byte.' Account text: its lines,
+-- 'one account a line: name, tab, string. A line ends at a line feed; a last line without one counts if it has any byte.' Account text: its lines,
 -- and the number of a line.
 -- Assumes nothing.
 use Prim.Native.Nat.{ℕ}
 use mathlib.Core.Bool.{not, cond, _&&_}
 use mathlib.Core.List.{List, [], _∷_, _++_}
 use lib.Dec.{ltb, eqb}
-use lib.ListN.{length}
+use lib.ListN.{length, drop}
 use Rattle.text.specs.Text.{tab, lineFeed, has, cut}
 use Rattle.text.specs.Rows.{Row, row, firstOf}
 use Rattle.grammar.specs.Rules.{isName}
@@ -27,6 +27,15 @@ linesFrom u (a ∷ s) = cond (eqb a lineFeed) (u ∷ linesFrom [] s) (linesFrom 
 
 unfoldable pub lines : List ℕ → List (List ℕ)
 lines s = linesFrom [] s
+
+-- the lines from a place on. Free answers: from past the end there is none; from inside a line the rest of it is a line
+abbrev pub linesLeft : List ℕ → ℕ → List (List ℕ)
+linesLeft s from = lines (drop from s)
+
+-- lines as a text, each with its line feed
+abbrev pub linesText : List (List ℕ) → List ℕ
+linesText [] = []
+linesText (l ∷ ls) = l ++ (lineFeed ∷ linesText ls)
 
 -- ---- one line
 

@@ -5,11 +5,12 @@ use crate::line::Answer;
 use crate::line::judge;
 use crate::numbers::LINE_TOO_LONG;
 use crate::row::write_row;
+use text::order::min;
 use text::place::Written;
 use text::place::write_text;
 use text::scan::next_at;
 use text::units::Chars;
-ghost use Prim.Native.Nat.{ℕ, _+_, _-_, _≤_, min};
+ghost use Prim.Native.Nat.{ℕ, _+_, _-_, _≤_};
 ghost use mathlib.Core.Path.{_≡_};
 ghost use mathlib.Core.List.{List, _++_};
 ghost use lib.ListN.{length, take, drop};
@@ -35,17 +36,11 @@ pub enum Listed {
     NoRoom,
 }
 
-fn least(a: usize, b: usize) -> usize
-    ensures { λ r. ⌜ r ≡ min a b ⌝ }
-{
-    if a < b { a } else { b }
-}
-
 // How many bytes of the array the state stands for.
 fn held_len(array: &[u8], kept: usize) -> usize
     ensures { λ r. ⌜ Held (now (array .entry)) kept r ⌝ }
 {
-    let n = least(kept, array.len());
+    let n = min(kept, array.len());
     next_at(&array[0..n], 0, b'\n')
 }
 
@@ -104,7 +99,7 @@ fn keep(array: &mut [u8], held: usize, more: &[u8]) -> usize
     requires { ⌜ (length (now array) ≡ mostKept) × (held ≤ mostKept) ⌝ }
     ensures { λ r. ⌜ (r ≡ held + length (take (mostKept - held) (now (more .entry)))) × (now (array .exit) ≡ over (now (array .entry)) held (take (mostKept - held) (now (more .entry)))) ⌝ }
 {
-    let count = least(MOST_KEPT - held, more.len());
+    let count = min(MOST_KEPT - held, more.len());
     write_text(&more[0..count], array, held);
     held + count
 }

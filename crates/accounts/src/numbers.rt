@@ -1,4 +1,4 @@
-// Document 01's numbers for bad input that only the listing gives.
+// Document 01's numbers for bad input that only account lines get.
 
 // Line over 512 bytes without its line feed.
 pub const LINE_TOO_LONG: u8 = 18;

@@ -34,6 +34,7 @@ use Rattle.phc.specs.Claims.{PhcClaims}
 use Rattle.phc.proofs.RecordAllLaws.{fits-number}
 use Rattle.phc.proofs.WrittenBack.{written-back, directory-written-back}
 use Rattle.phc.proofs.Refusals.{write-not-0, write-short-not-0, read-refuses, read-all-refuses, read-answer, read-all-answer, algorithm-version-answer, byte-string-answer, write-answer, write-short-answer, directory-write-not-0, directory-read-all-refuses, directory-read-all-answer, directory-write-answer}
+use Rattle.phc.proofs.JudgeLaws.{judge-enough, judge-short, judge-refuses, judge-answer, judge-gives}
 
 -- no profile permits the version 0
 unnumbered : Profile → Bool
@@ -132,4 +133,9 @@ phc-claims =
       directory-read-all-refuses = directory-read-all-refuses;
       directory-read-all-answer = directory-read-all-answer;
       directory-write-answer = directory-write-answer;
+      judge-enough = judge-enough;
+      judge-short = λ text from limit answers result h. sym (judge-short text from limit answers result h);
+      judge-refuses = judge-refuses;
+      judge-answer = judge-answer;
+      judge-gives = judge-gives;
     }

@@ -4,4 +4,5 @@ pub mod RecordLaws
 pub mod RecordAllLaws
 pub mod WrittenBack
 pub mod Refusals
+pub mod JudgeLaws
 pub mod Claims

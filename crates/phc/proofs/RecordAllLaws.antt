@@ -118,20 +118,6 @@ module _ (s «record» buffer : List ℕ) where
         → allOutcome n wrote left ≡ recordedAll s «record» buffer
     record-all-given n p wrote q = (λ i. allOutcome (p i) (q i) left) ∙ given-all
 
--- ---- what was read, given back by itself
-
-module _ (c : Contents) («record» : List ℕ) where
-  pub given-refused : (c .reading .number ≡ 0 → ⊥) → (c .reading .number ≡ recordedContents c «record» .number) × («record» ≡ recordedContents c «record» .buffer)
-  given-refused z =
-      let r = put-refused «record» 0 (recordBytes (c .reading) ++ countBytes c) (c .reading .number) (c .reading .number) refl (omega (arith, z)) in
-      (ap (λ (o : Outcome). o .number) r, ap (λ (o : Outcome). o .buffer) r)
-
-  pub given-done : c .reading .number ≡ 0 → recordAllLength ≤ length «record» → (wrote : List ℕ) → wrote ≡ over «record» 0 (recordBytes (c .reading) ++ countBytes c)
-      → (0 ≡ recordedContents c «record» .number) × (wrote ≡ recordedContents c «record» .buffer)
-  given-done z h wrote q =
-      let r = after-done (c .reading .number) «record» 0 (recordBytes (c .reading) ++ countBytes c) z (omega arith) in
-      (sym (ap (λ (o : Outcome). o .number) r), q ∙ sym (ap (λ (o : Outcome). o .buffer) r))
-
 -- ---- of a braced text
 
 module _ (t «record» buffer : List ℕ) where

@@ -1,6 +1,6 @@
 -- What `phc_read_all` gave are the fields that the string carries, and `phc_write` writes them back; so with braced texts.
 -- Assumes nothing.
-use Prim.Native.Nat.{ℕ, _+_, _*_, _/_, _%_, _≤_}
+use Prim.Native.Nat.{ℕ, _+_, _≤_}
 use mathlib.Core.Bool.{Bool, true, _&&_}
 use mathlib.Core.List.{List, [], _∷_, _++_, append-assoc}
 use mathlib.Core.Option.{none, some}
@@ -16,6 +16,7 @@ use Rattle.text.proofs.Tests.{both, from-within}
 use Rattle.text.proofs.Lists.{all-has}
 use Rattle.text.proofs.Table.{always}
 use Rattle.text.proofs.Over.{over-start}
+use Rattle.text.proofs.LittleEndian.{back32}
 use Rattle.text.proofs.Writing.{after-zero, after-done}
 use Rattle.grammar.specs.Pieces.{OptionalText}
 use Rattle.table.specs.Limits.{Profile, noProfile, profileOf, editionTwo, largest32, lowest, highest, versionAllowed}
@@ -40,12 +41,6 @@ use Rattle.phc.specs.Records.{versionFlag, versionNumber, recordBytes, c
 use Rattle.phc.specs.Writing.{versionField, handed, fieldsIn}
 
 -- ---- numbers of 32 bits
-
-joined : (n a b c d n₁ n₂ e : ℕ) → n ≡ a + 256 * n₁ → n₁ ≡ b + 256 * n₂ → n₂ ≡ c + 256 * d → e ≡ d → a + 256 * b + 65536 * c + 16777216 * e ≡ n
-joined n a b c d n₁ n₂ e p q r s = omega arith
-
-back32 : (n : ℕ) → n ≤ largest32 → n % 256 + 256 * (n / 256 % 256) + 65536 * (n / 65536 % 256) + 16777216 * (n / 16777216 % 256) ≡ n
-back32 n h = joined n (n % 256) (n / 256 % 256) (n / 65536 % 256) (n / 16777216) (n / 256) (n / 65536) (n / 16777216 % 256) (omega arith) (omega arith) (omega arith) (omega arith)
 
 -- every number that a profile permits is one
 wordSized : Profile → Bool

@@ -1,6 +1,6 @@
 -- What is proved of the outcomes that the exported functions' contracts name. The value is in proofs/Claims.antt.
 -- Assumes nothing.
-use Prim.Native.Nat.{ℕ, _*_, _≤_}
+use Prim.Native.Nat.{ℕ, _*_, _≤_, _<_}
 use mathlib.Core.Path.{_≡_}
 use mathlib.Core.Bool.{true, not, cond}
 use mathlib.Core.List.{List}
@@ -8,6 +8,7 @@ use mathlib.Core.Logic.{_≢_}
 use lib.Dec.{eqb}
 use lib.ListN.{length}
 use Rattle.text.specs.Place.{over, Refuses}
+use Rattle.text.specs.Units.{largestUsize}
 use Rattle.table.specs.Limits.{profileOf, editionTwo}
 use Rattle.profile.specs.Fields.{FieldSet}
 use Rattle.profile.specs.Writer.{writerNumber}
@@ -18,8 +19,10 @@ use Rattle.fast_path.specs.Claims.{mostBytes}
 use Rattle.directory.specs.Braced.{longestBraced}
 use Rattle.directory.specs.Entries.{isDirectoryId, directoryReading, directoryWriterNumber, directoryWriting}
 use Rattle.directory.specs.Claims.{isDirectoryByteStringNumber}
+use Rattle.accounts.specs.Batches.{judged, batched}
 use Rattle.phc.specs.Records.{recorded, recordAllLength, allOutcome, recordedAll, directoryRecordedAll, codeOf, coded, isRefusal}
 use Rattle.phc.specs.Writing.{handed, fieldsIn}
+use Rattle.phc.specs.Batches.{number64, batchLength, judgeOutcome, recordedJudging}
 
 pub record PhcClaims : Type 0 where
   -- a record of 36 bytes and a buffer of 152 are enough for every string: the number is the reader's
@@ -74,3 +77,23 @@ pub record PhcClaims : Type 0 where
   pub directory-write-answer : (f : FieldSet) (buffer : List ℕ)
       → let o = directoryWriting editionTwo f buffer 0 in
       isRefusal (coded o) ≡ not (eqb (o .number) 0)
+  -- ---- account text
+  -- a result of 16 bytes is enough: the number is the batch's, so 17 exactly when the answers don't fit
+  pub judge-enough : (text : List ℕ) (from limit : ℕ) (answers result : List ℕ) → batchLength ≤ length result
+      → recordedJudging text from limit answers result .number ≡ batched text from limit answers .batch .number
+  -- and a shorter one is refused, whatever room the answers have
+  pub judge-short : (text : List ℕ) (from limit : ℕ) (answers result : List ℕ) → length result < batchLength
+      → recordedJudging text from limit answers result ≡ judgeOutcome 17 answers result
+  -- a refusal is 17, and changes no byte
+  pub judge-refuses : (text : List ℕ) (from limit : ℕ) (answers result : List ℕ)
+      → let o = recordedJudging text from limit answers result in
+      o .number ≢ 0 → o ≡ judgeOutcome 17 answers result
+  pub judge-answer : (text : List ℕ) (from limit : ℕ) (answers result : List ℕ)
+      → let number = recordedJudging text from limit answers result .number in
+      isRefusal number ≡ not (eqb number 0)
+  -- else the answers, and the place and the count that the result's first 16 bytes hold, are the batch's; no text is longer, and no limit larger,
+  -- than the largest size_t
+  pub judge-gives : (text : List ℕ) (from limit : ℕ) (answers result : List ℕ)
+      → let o = recordedJudging text from limit answers result in
+      o .number ≡ 0 → length text ≤ largestUsize → limit ≤ largestUsize
+      → judged (number64 (o .result) 0) (number64 (o .result) 8) (o .answers) ≡ batched text from limit answers

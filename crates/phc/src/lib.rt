@@ -1,4 +1,6 @@
-// The profile's and the directory's entries for programs in other languages: numbers and byte slices, under C names (include/phc.h).
+// The entries of the profile, the directory and the account text for programs in other languages: numbers and byte slices, under C names
+// (include/phc.h).
+pub mod batch;
 pub mod braced;
 mod code;
 mod handed;

@@ -44,8 +44,8 @@ fn version_number(version: Version) -> u32
     }
 }
 
-// Four numbers of 32 bits, little-endian.
-fn four_words(a: usize, b: usize, c: usize, d: usize) -> [u8; 16]
+// Four numbers of 32 bits, little-endian; of a larger one its lowest 32 bits.
+pub fn four_words(a: usize, b: usize, c: usize, d: usize) -> [u8; 16]
     ensures { λ r. ⌜ r ≡ words a b c d ⌝ }
 {
     [

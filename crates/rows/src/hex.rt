@@ -28,7 +28,7 @@ fn nibble(c: u8) -> u8
 }
 
 // The bytes of hex digits, from the start of a buffer on, as many as it takes; the count is theirs. A last digit without its pair is left out.
-fn decode_hex(text: &[u8], buf: &mut [u8]) -> Bytes
+pub fn decode_hex(text: &[u8], buf: &mut [u8]) -> Bytes
     ensures { λ r. ⌜ Wrote (take (length (now (buf .entry))) (hexBytes (now (text .entry)))) (now (buf .entry)) (now (buf .exit)) (r .0) ⌝ }
 {
     let pairs = text.len() / 2;

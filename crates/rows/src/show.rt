@@ -49,6 +49,23 @@ pub fn show_hex(bytes: &[u8]) {
     }
 }
 
+fn show_decimal(n: u8) {
+    io::print_decimal(STDOUT_FILENO, n as u64);
+}
+
+// Numbers, parted by commas.
+pub fn show_numbers(numbers: &[u8]) {
+    show(b"\t");
+    let mut i: usize = 0;
+    while i < numbers.len() {
+        if 0 < i {
+            show(b",");
+        }
+        show_decimal(numbers[i]);
+        i += 1;
+    }
+}
+
 // The text at a place of a buffer; none where it doesn't lie inside.
 pub fn show_text(buf: &[u8], at: usize, len: Chars) {
     show(b"\t");

@@ -4,6 +4,7 @@ use accounts::listing::Listed;
 use accounts::listing::end;
 use accounts::listing::next;
 use libc::STDOUT_FILENO;
+use text::order::min;
 ghost use Prim.Native.Nat.{_≤_};
 ghost use mathlib.Core.Path.{_≡_};
 ghost use mathlib.Core.Bool.{false};
@@ -17,23 +18,17 @@ pub struct State {
     pub open: bool,
 }
 
-fn least(a: usize, b: usize) -> usize
-    ensures { λ r. ⌜ (r ≤ a) × (r ≤ b) ⌝ }
-{
-    if a < b { a } else { b }
-}
-
 // The bytes that wait after `count` more; never past the buffer.
 fn waiting(out: &[u8], used: usize, count: usize) -> usize
     ensures { λ r. ⌜ r ≤ length (now (out .entry)) ⌝ }
 {
-    let waits = least(used, out.len());
-    waits + least(count, out.len() - waits)
+    let waits = min(used, out.len());
+    waits + min(count, out.len() - waits)
 }
 
 // Writes what waits; false where that fails.
 fn flush(out: &[u8], used: usize) -> bool {
-    let n = least(used, out.len());
+    let n = min(used, out.len());
     io::write_all(STDOUT_FILENO, &out[0..n])
 }
 
@@ -70,7 +65,7 @@ fn take_rows(array: &mut [u8; MOST_KEPT], out: &mut [u8], part: &[u8], begun: St
                 return State {
                     kept: more,
                     line,
-                    used: least(used, out.len()),
+                    used: min(used, out.len()),
                     open: true,
                 };
             }
@@ -91,7 +86,7 @@ fn take_rows(array: &mut [u8; MOST_KEPT], out: &mut [u8], part: &[u8], begun: St
     State {
         kept,
         line,
-        used: least(used, out.len()),
+        used: min(used, out.len()),
         open: true,
     }
 }

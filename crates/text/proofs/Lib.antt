@@ -16,3 +16,4 @@ pub mod Groups
 pub mod Splitting
 pub mod Joining
 pub mod Sums
+pub mod LittleEndian

@@ -1,8 +1,8 @@
--- The first elements of a list: how many are taken, what is kept of more, and what depends on them alone.
+-- The first elements of a list: how many are taken or dropped, what is kept of more, and what depends on them alone.
 -- Assumes nothing.
 use Prim.Native.Nat.{ℕ, zero, suc, _+_, _-_, _≤_, min}
 use mathlib.Core.Bool.{Bool, true, false}
-use mathlib.Core.List.{List, [], _∷_, _++_, append-assoc}
+use mathlib.Core.List.{List, [], _∷_, _++_, map, append-assoc}
 use mathlib.Core.Path.{_≡_, refl, sym, ap, _∙_}
 use native.Mathlib.Nat.{zero-min, min-zero, suc-min-suc}
 use native.Mathlib.Omega.{arith}
@@ -13,10 +13,22 @@ use borrow.Author.Tests.{leb-true, leb-false}
 use Rattle.text.specs.Place.{over, outcome, put}
 use Rattle.text.proofs.Writing.{put-fits}
 
-pub take-min : (d : List ℕ) (n : ℕ) → take (min n (length d)) d ≡ take n d
+-- no more than there are
+pub take-min : {A : Type 0} (d : List A) (n : ℕ) → take (min n (length d)) d ≡ take n d
 take-min d zero = rw zero-min
 take-min [] (suc n) = rw min-zero
-take-min (a ∷ d) (suc n) = rw suc-min-suc (ap (λ (v : List ℕ). a ∷ v) (take-min d n))
+take-min {A} (a ∷ d) (suc n) = rw suc-min-suc (ap (λ (v : List A). a ∷ v) (take-min d n))
+
+pub drop-min : {A : Type 0} (d : List A) (n : ℕ) → drop (min n (length d)) d ≡ drop n d
+drop-min d zero = rw zero-min
+drop-min [] (suc n) = rw min-zero
+drop-min (a ∷ d) (suc n) = rw suc-min-suc (drop-min d n)
+
+-- what a function gives of the first n, and of the others
+pub map-split : {A B : Type 0} (f : A → B) (n : ℕ) (l : List A) → map f l ≡ map f (take n l) ++ map f (drop n l)
+map-split f zero l = refl
+map-split f (suc n) [] = refl
+map-split {B} f (suc n) (x ∷ l) = ap {B = List B} (λ r. f x ∷ r) (map-split f n l)
 
 -- what is cut off does not count where more is taken and cut
 pub take-cut : (n : ℕ) (u t : List ℕ) → take n (take n u ++ t) ≡ take n (u ++ t)

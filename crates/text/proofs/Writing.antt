@@ -107,6 +107,19 @@ pub after-done : (n : ℕ) (buffer : List ℕ) (at : ℕ) (bytes : List ℕ) →
     → putAfter n buffer at bytes ≡ outcome 0 (length bytes) (over buffer at bytes)
 after-done n buffer at bytes z h = put-clear buffer at bytes n z ∙ sym (put-done buffer at bytes h (length bytes) refl (over buffer at bytes) refl)
 
+-- number and buffer apart, of an earlier refusal and of bytes that fit
+module _ (n : ℕ) (buffer : List ℕ) (at : ℕ) (bytes : List ℕ) where
+  pub parts-refused : (n ≡ 0 → ⊥) → (n ≡ putAfter n buffer at bytes .number) × (buffer ≡ putAfter n buffer at bytes .buffer)
+  parts-refused z =
+      let r = put-refused buffer at bytes n n refl (omega (arith, z)) in
+      (ap (λ (o : Outcome). o .number) r, ap (λ (o : Outcome). o .buffer) r)
+
+  pub parts-done : n ≡ 0 → at + length bytes ≤ length buffer → (left : List ℕ) → left ≡ over buffer at bytes
+      → (0 ≡ putAfter n buffer at bytes .number) × (left ≡ putAfter n buffer at bytes .buffer)
+  parts-done z h left e =
+      let r = after-done n buffer at bytes z h in
+      (sym (ap (λ (o : Outcome). o .number) r), e ∙ sym (ap (λ (o : Outcome). o .buffer) r))
+
 -- what was written at one place of one buffer tells the bytes
 pub over-same : (buffer : List ℕ) (at : ℕ) (x y : List ℕ) → at ≤ length buffer
     → outcome 0 (length x) (over buffer at x) ≡ outcome 0 (length y) (over buffer at y) → x ≡ y

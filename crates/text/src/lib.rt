@@ -2,6 +2,7 @@
 // Every law that mentions no format stands in proofs/.
 pub mod lines;
 pub mod numbers;
+pub mod order;
 pub mod place;
 pub mod scan;
 pub mod units;

@@ -9,7 +9,7 @@ returns : tie.Need-returns
 returns c =
     let l = c .before .before in
     let a = l .before .before .args in
-    held-by (now (a .array)) (a .kept) (l .least .result) (c .next-at .result) (l .least .ensures) (c .next-at .ensures)
+    held-by (now (a .array)) (a .kept) (l .min .result) (c .next-at .result) (l .min .ensures) (c .next-at .ensures)
 
 pub held-len-spec : {M : Type 1} → statement M
 held-len-spec =

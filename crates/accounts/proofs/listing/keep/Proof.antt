@@ -11,8 +11,8 @@ returns c =
     let w = c .before .before in
     let l = w .before .before .before in
     let s = l .before .before .before in
-    kept-more mostKept (now (s .args .array)) (w .write-text .last .1 .0) (now (s .args .more)) (s .args .held) (l .least .result) (w .write-text .result .number) (w .write-text .result .count .0)
-    (s .pre .0) (s .pre .1) (l .least .ensures) (w .write-text .ensures)
+    kept-more mostKept (now (s .args .array)) (w .write-text .last .1 .0) (now (s .args .more)) (s .args .held) (l .min .result) (w .write-text .result .number) (w .write-text .result .count .0)
+    (s .pre .0) (s .pre .1) (l .min .ensures) (w .write-text .ensures)
 
 pub keep-spec : {M : Type 1} → statement M
 keep-spec =

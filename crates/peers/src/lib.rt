@@ -1,0 +1,2 @@
+// What the benchmark compares entries of the product with: proved, and built by the same kit. No part of the product.
+pub mod judging;
