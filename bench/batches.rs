@@ -1,6 +1,7 @@
 //! Times account text judged in batches beside the listing's judging of it (crates/peers), on the same text in one run.
 
 use std::hint::black_box;
+use std::ops::Range;
 use std::time::Instant;
 
 extern "C" {
@@ -11,21 +12,24 @@ extern "C" {
     fn peer_judge_all(text: *const u8, text_len: usize) -> u64;
 }
 
-const ROUNDS: usize = 21;
+const PASSES: usize = 5;
+/// About the bytes of one sample: short, so that what disturbs one disturbs few ratios.
+const SAMPLE: usize = 1_000_000;
 
-/// How many lines the listing's judging accepts.
-fn listing(text: &[u8]) -> usize {
+/// How many of the lines in a part of a text the listing's judging accepts.
+fn listing(text: &[u8], part: &Range<usize>) -> usize {
+    let lines = &text[part.clone()];
     // SAFETY: the slice is whole.
-    unsafe { peer_judge_all(text.as_ptr(), text.len()) as usize }
+    unsafe { peer_judge_all(lines.as_ptr(), lines.len()) as usize }
 }
 
-/// The same, in batches of so many lines, each from the place that the one before gave. The slice has room for one batch.
-fn batches(text: &[u8], limit: usize) -> usize {
+/// The same, in batches of so many lines of the whole text, each from the place that the one before gave. The slice has room for one batch.
+fn batches(text: &[u8], part: &Range<usize>, limit: usize) -> usize {
     let mut answers = vec![0; limit];
     let mut result = [0; 16];
     let number = |bytes: &[u8]| u64::from_le_bytes(bytes.try_into().unwrap()) as usize;
-    let (mut place, mut accepted) = (0, 0);
-    while place < text.len() {
+    let (mut place, mut accepted) = (part.start, 0);
+    while place < part.end {
         // SAFETY: the slices are whole and apart.
         let refused = unsafe {
             phc_judge(text.as_ptr(), text.len(), place, limit, answers.as_mut_ptr(), answers.len(), result.as_mut_ptr(), result.len())
@@ -44,39 +48,57 @@ fn quartiles(samples: &[f64]) -> [f64; 3] {
     [1, 2, 3].map(|quarter| sorted[sorted.len() * quarter / 4])
 }
 
+/// Parts of so many lines that a batch of 100 ends with each; the last may be shorter.
+fn parts(text: &[u8]) -> Vec<Range<usize>> {
+    let ends: Vec<usize> = text.split_inclusive(|byte| *byte == b'\n').scan(0, |end, line| {
+        *end += line.len();
+        Some(*end)
+    }).collect();
+    let lines = SAMPLE * ends.len() / text.len() / 100 * 100;
+    let mut starts = vec![0];
+    starts.extend(ends.chunks(lines.max(100)).map(|part| part[part.len() - 1]));
+    starts.windows(2).map(|pair| pair[0]..pair[1]).collect()
+}
+
 fn main() {
     let path = std::env::args().nth(1).expect("usage: batches FILE");
     let text = std::fs::read(path).unwrap();
-    let lines = text.split_inclusive(|byte| *byte == b'\n').count();
-    type Judging<'a> = (&'a str, f64, Box<dyn Fn(&[u8]) -> usize>);
-    let ways: [Judging; 3] = [
-        ("the listing's judging", f64::INFINITY, Box::new(listing)),
-        ("batches of 1 line", 1.3, Box::new(|text| batches(text, 1))),
-        ("batches of 100 lines", 1.1, Box::new(|text| batches(text, 100))),
+    let parts = parts(&text);
+    let lines = |part: &Range<usize>| text[part.clone()].split_inclusive(|byte| *byte == b'\n').count();
+    type Judging = fn(&[u8], &Range<usize>) -> usize;
+    let ways: [(&str, f64, Judging); 3] = [
+        ("the listing's judging", f64::INFINITY, listing),
+        ("batches of 1 line", 1.3, |text, part| batches(text, part, 1)),
+        ("batches of 100 lines", 1.1, |text, part| batches(text, part, 100)),
     ];
 
     let mut samples = vec![Vec::new(); ways.len()];
-    // The first round warms up.
-    for round in 0..=ROUNDS {
-        for turn in 0..ways.len() {
-            let i = (round + turn) % ways.len();
-            let start = Instant::now();
-            let accepted = ways[i].2(black_box(&text));
-            let milliseconds = start.elapsed().as_secs_f64() * 1000.0;
-            assert_eq!(accepted, lines, "{}", ways[i].0);
-            if round > 0 {
-                samples[i].push(milliseconds);
+    // The first pass warms up.
+    for pass in 0..=PASSES {
+        for (round, part) in parts.iter().enumerate() {
+            for turn in 0..ways.len() {
+                let i = (pass + round + turn) % ways.len();
+                let start = Instant::now();
+                let accepted = ways[i].2(black_box(&text), part);
+                let milliseconds = start.elapsed().as_secs_f64() * 1000.0;
+                assert_eq!(accepted, lines(part), "{}", ways[i].0);
+                if pass > 0 {
+                    samples[i].push(milliseconds);
+                }
             }
         }
     }
 
-    println!("{lines} lines, {} bytes, {ROUNDS} rounds of all in turn. Ratio: of the ratios in each round, the median.", text.len());
+    let all: usize = parts.iter().map(lines).sum();
+    println!("{all} lines of a text of {} bytes, in {} parts, each way in turn on each part, {PASSES} times.", text.len(), parts.len());
+    println!("Ratio: of the ratios for each part and time, the median.");
     println!();
-    println!("| way | ms, median | quartiles | ratio | at most |");
+    println!("| way | ms for all parts, median | quartiles | ratio | at most |");
     println!("|---|---|---|---|---|");
     let mut past = Vec::new();
     for ((name, most, _), times) in ways.iter().zip(&samples) {
-        let [low, median, high] = quartiles(times);
+        let passes: Vec<f64> = times.chunks(parts.len()).map(|pass| pass.iter().sum()).collect();
+        let [low, median, high] = quartiles(&passes);
         let ratios: Vec<f64> = times.iter().zip(&samples[0]).map(|(time, first)| time / first).collect();
         let ratio = quartiles(&ratios)[1];
         let limit = if most.is_finite() { most.to_string() } else { "-".to_string() };
