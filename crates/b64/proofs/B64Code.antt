@@ -1,22 +1,19 @@
--- What the code of B64 needs: the end of a text, the bytes that a rest of a text completes, what the stores of the encoder leave, and four
--- sextets as one number.
+-- What the code of B64 needs: the end of a text, the alphabet by tests, what the stores of the encoder leave, and four sextets as one number.
 -- Assumes nothing.
 use Prim.Native.Nat.{ℕ, suc, _+_, _-_, _*_, _%_, _<_, _≤_}
 use mathlib.Core.Path.{_≡_, refl, sym, ap, _∙_}
-use mathlib.Core.Bool.{Bool, true, false, not, _&&_}
+use mathlib.Core.Bool.{Bool, true, false, not, cond, _&&_, _||_}
 use mathlib.Core.List.{List, [], _∷_, _++_}
 use native.Mathlib.Omega.{arith}
-use native.Mathlib.Numerals.{add-one}
 use lib.Dec.{eqb}
-use lib.ListN.{length, getD, take, drop, set, take-append-drop}
-use lib.Seq.{drop-cons, set-split, sets-eq}
-use borrow.Author.Tests.{ltb-true, le-leb, lt-leb, eq-eqb, ne-eqb}
-use Rattle.text.specs.Text.{all}
-use Rattle.text.specs.Place.{over}
-use Rattle.text.proofs.Groups.{Partly, partly-room, partly-step}
+use lib.ListN.{length, getD, take, drop, set, replicate}
+use lib.Seq.{sets-eq}
+use borrow.Author.Tests.{ltb-true, le-leb, lt-leb}
+use Rattle.text.specs.Text.{within, all}
 use Rattle.text.proofs.Lists.{all-at}
-use Rattle.b64.specs.B64.{sextet, letter, inAlphabet, last, lowBitsZero, canonical, decode, char0, char1, char2, char3, encode, groupOf}
-use Rattle.b64.specs.B64Steps.{completedByte, completedBytes}
+use Rattle.text.proofs.Table.{at}
+use Rattle.b64.specs.B64.{sextet, letter, inAlphabet, last, lowBitsZero, canonical, char0, char1, char2, char3, encode, groupOf}
+use Rattle.b64.specs.B64Steps.{bitsOf}
 use Rattle.b64.proofs.B64Laws.{mod1, canonical-alphabet}
 
 last-at : (t : List ℕ) → last t ≡ getD t (length t - 1) 0
@@ -54,55 +51,26 @@ module _ (t : List ℕ) where
   unfolding canonical
   canonical-out e = rw (← e)
 
--- ---- the decoder, character by character
+-- ---- the alphabet by tests on the byte, and 01's table: one computed test ties the two
+
+tests : ℕ → Bool
+tests c = ((within 65 90 c || within 97 122 c) || within 47 57 c) || eqb c 43
+
+agree : ℕ → ℕ → Bool
+agree c _ = cond (inAlphabet c) (tests c) (not (tests c))
+
+told : (a b : Bool) → cond a b (not b) ≡ true → b ≡ a
+told true b e = e
+told false true e = sym e
+told false false e = refl
+
+pub alphabet-tests : (c : ℕ) → c < 256 → (((within 65 90 c || within 97 122 c) || within 47 57 c) || eqb c 43) ≡ inAlphabet c
+unfolding agree tests sextet
+alphabet-tests c h = told (inAlphabet c) (tests c) (at agree (replicate 256 0) refl c h)
 
 -- each character of a canonical text has a sextet
 pub sextet-at : (t : List ℕ) → canonical t ≡ true → (i : ℕ) → i < length t → sextet (getD t i 0) < 64
 sextet-at t e i h = ltb-true _ _ (all-at inAlphabet t (canonical-alphabet t e) i h)
-
--- the bytes that a rest of a text completes, which begins at a place of a group, after a sextet
-abbrev pub completedFrom : ℕ → ℕ → List ℕ → List ℕ
-completedFrom place prior [] = []
-completedFrom place prior (c ∷ t) = completedBytes place prior (sextet c) ++ completedFrom ((place + 1) % 4) (sextet c) t
-
-pub completed-decode : (t : List ℕ) (prior : ℕ) → completedFrom 0 prior t ≡ decode t
-unfolding decode
-completed-decode [] prior = refl
-completed-decode (a ∷ []) prior = refl
-completed-decode (a ∷ b ∷ []) prior = refl
-completed-decode (a ∷ b ∷ c ∷ []) prior = refl
-completed-decode (a ∷ b ∷ c ∷ d ∷ t) prior = rw (completed-decode t (sextet d))
-
--- one turn of the loop, at the character i with the sextet own
-module _ (t d₀ d : List ℕ) (i o prior own : ℕ) (h : i < length t) (e : own ≡ sextet (getD t i 0))
-    (p : Partly (decode t) d₀ d o (completedFrom (i % 4) prior (drop i t))) (fit : length (decode t) ≤ length d₀) where
-  split : completedFrom (i % 4) prior (drop i t) ≡ completedBytes (i % 4) prior own ++ completedFrom ((i + 1) % 4) own (drop (i + 1) t)
-  split = let m : (i % 4 + 1) % 4 ≡ (i + 1) % 4 = omega arith in rw (drop-cons t i 0 h, m, e, add-one)
-
-  next : Partly (decode t) d₀ d o (completedBytes (i % 4) prior own ++ completedFrom ((i + 1) % 4) own (drop (i + 1) t))
-  next = rw split at p
-
-  pub next-room : o + length (completedBytes (i % 4) prior own) ≤ length d
-  next-room = partly-room (decode t) d₀ d o (completedBytes (i % 4) prior own) (completedFrom ((i + 1) % 4) own (drop (i + 1) t)) next fit
-
-  pub next-step : (o′ : ℕ) (d′ : List ℕ) → o′ ≡ o + length (completedBytes (i % 4) prior own) → d′ ≡ over d o (completedBytes (i % 4) prior own)
-      → Partly (decode t) d₀ d′ o′ (completedFrom ((i + 1) % 4) own (drop (i + 1) t))
-  next-step o′ d′ eo ed =
-      rw (eo, ed) (partly-step (decode t) d₀ d o (completedBytes (i % 4) prior own) (completedFrom ((i + 1) % 4) own (drop (i + 1) t)) next fit)
-
--- what is stored, where a character completes nothing and where it completes a byte
-module _ (place prior own : ℕ) (d : List ℕ) (o : ℕ) where
-  abbrev Stored : ℕ → List ℕ → Type 0
-  Stored r d′ = (r ≡ o + length (completedBytes place prior own)) × (d′ ≡ over d o (completedBytes place prior own))
-
-  pub stored-none : place ≡ 0 → Stored o d
-  stored-none e = let z : o + 0 ≡ o = omega arith in rw (eq-eqb place 0 e, z) (refl, sym (take-append-drop o d))
-
-  pub stored-room : (place ≡ 0 → ⊥) → o + length (completedBytes place prior own) ≤ length d → o < length d
-  stored-room n h = omega (arith, rw (ne-eqb place 0 n) at h)
-
-  pub stored-one : (place ≡ 0 → ⊥) → o < length d → (v : ℕ) → v ≡ completedByte place prior own → Stored (o + 1) (set d o v)
-  stored-one n h v e = rw (ne-eqb place 0 n, ← e) (refl, rw (add-one) (set-split d o v h))
 
 -- ---- the encoder, group by group
 
@@ -159,9 +127,8 @@ module _ (b d : List ℕ) (p q r s : ℕ) (ep : p ≡ char0 (getD b 0 0)) where
 
 -- ---- four sextets as one number
 
-module _ (a b c d x y z w : ℕ) (ea : x ≡ a) (eb : y ≡ b) (ec : z ≡ c) (ed : w ≡ d) where
-  pub group-past : 252 < x + y + z + w → 16777216 ≡ groupOf a b c d
-  group-past h = rw (lt-leb (a + b + c + d) 252 (omega (arith, ea, eb, ec, ed)))
+pub group-past : (a b c d : ℕ) → 252 < a + b + c + d → 16777216 ≡ groupOf a b c d
+group-past a b c d h = rw (lt-leb (a + b + c + d) 252 h)
 
-  pub group-bits : x + y + z + w ≤ 252 → (x * 64 + y) * 4096 + (z * 64 + w) ≡ groupOf a b c d
-  group-bits h = rw (le-leb (a + b + c + d) 252 (omega (arith, ea, eb, ec, ed)), ea, eb, ec, ed)
+pub group-bits : (a b c d : ℕ) → a + b + c + d ≤ 252 → bitsOf a b c d ≡ groupOf a b c d
+group-bits a b c d h = rw (le-leb (a + b + c + d) 252 h)

@@ -1,15 +1,25 @@
--- What the private steps of the B64 decoder promise each other. Nothing here is a rule: no public contract cites it.
+-- What the private steps of the B64 decoder promise each other: the bits of a group, and the bytes of a group or of the rest. Nothing here is a
+-- rule: no public contract cites it.
 -- Assumes nothing.
 use Prim.Native.Nat.{ℕ, _+_, _*_, _/_, _%_}
-use mathlib.Core.Bool.{cond}
 use mathlib.Core.List.{List, [], _∷_}
-use lib.Dec.{eqb}
+use lib.ListN.{getD}
+use Rattle.b64.specs.B64.{sextet, groupOf}
 
--- the byte that a character completes, by its place in its group of four, from the sextet before it and its own
-abbrev pub completedByte : ℕ → ℕ → ℕ → ℕ
-completedByte place prior own =
-    cond (eqb place 1) (prior * 4 + own / 16) (cond (eqb place 2) (prior % 16 * 16 + own / 4) (prior % 4 * 64 + own))
+-- four numbers of six bits as one of 24
+abbrev pub bitsOf : ℕ → ℕ → ℕ → ℕ → ℕ
+bitsOf a b c d = (a * 64 + b) * 4096 + (c * 64 + d)
 
--- the same as a list: the first character of a group completes no byte
-abbrev pub completedBytes : ℕ → ℕ → ℕ → List ℕ
-completedBytes place prior own = cond (eqb place 0) [] (completedByte place prior own ∷ [])
+-- the number of the four bytes at a place
+abbrev pub groupAt : List ℕ → ℕ → ℕ
+groupAt s i = groupOf (sextet (getD s i 0)) (sextet (getD s (i + 1) 0)) (sextet (getD s (i + 2) 0)) (sextet (getD s (i + 3) 0))
+
+-- the bytes of 24 bits, of three sextets, and of two
+abbrev pub three : ℕ → List ℕ
+three n = n / 65536 ∷ n / 256 % 256 ∷ n % 256 ∷ []
+
+abbrev pub two : ℕ → ℕ → ℕ → List ℕ
+two a b c = (a * 4 + b / 16) ∷ (b % 16 * 16 + c / 4) ∷ []
+
+abbrev pub one : ℕ → ℕ → List ℕ
+one a b = (a * 4 + b / 16) ∷ []

@@ -1,10 +1,16 @@
-// From B64 characters to bytes, into a lent buffer.
+// From B64 characters to bytes, into a lent buffer, by whole groups of four: a text that is judged first, or what stands at a place.
 use crate::alphabet::SEXTETS;
+use crate::group_bytes::four;
+use crate::group_bytes::put_group;
+use crate::group_bytes::put_one;
+use crate::group_bytes::put_three;
+use crate::group_bytes::put_two;
 use crate::lengths::decoded_len;
 use crate::numbers::NOT_CANONICAL;
 use crate::sextets::is_canonical_by;
 use crate::sextets::sextet_of;
 use text::numbers::NO_ROOM;
+use text::order::min;
 use text::place::Decoded;
 use text::place::has_room;
 use text::units::Bytes;
@@ -13,54 +19,173 @@ ghost use mathlib.Core.Path.{_≡_};
 ghost use mathlib.Core.Bool.{true};
 ghost use mathlib.Core.List.{_++_};
 ghost use Prim.Native.Nat.{_+_, _≤_, _<_};
-ghost use lib.ListN.{length, drop};
-ghost use Rattle.text.specs.Place.{outcome, over};
-ghost use Rattle.b64.specs.B64.{Sextets, canonical, decode, decoding};
-ghost use Rattle.b64.specs.B64Steps.{completedByte, completedBytes};
+ghost use lib.ListN.{length, getD, drop};
+ghost use Rattle.text.specs.Place.{outcome};
+ghost use Rattle.b64.specs.B64.{sextet, Sextets, canonical, decode, decoding};
+ghost use Rattle.b64.specs.Runs.{RunGives};
+ghost use Rattle.b64.specs.RunSteps.{Reached, Stopped};
 
-// The byte that a character completes, from the sextet before it and its own; `place` is its place in its group, from 1 to 3.
-fn completed(place: usize, prior: u8, own: u8) -> u8
-    requires { ⌜ (prior < 64) × (own < 64) ⌝ }
-    ensures { λ r. ⌜ r ≡ completedByte place prior own ⌝ }
-{
-    if place == 1 {
-        return prior * 4 + own / 16;
-    }
-    if place == 2 {
-        return prior % 16 * 16 + own / 4;
-    }
-    prior % 4 * 64 + own
+// How far a run was decoded: the place after the characters, and the place after their bytes; `whole` where that is all of them.
+pub struct Run {
+    pub next: usize,
+    pub end: usize,
+    pub whole: bool,
 }
 
-// Stores what a character completes at `o`, and gives the place after it. The first character of a group completes nothing.
-fn store_next(place: usize, prior: u8, own: u8, out: &mut [u8], o: usize) -> usize
-    requires { ⌜ (prior < 64) × (own < 64) ⌝ }
-    requires { ⌜ o + length (completedBytes place prior own) ≤ length (now out) ⌝ }
-    ensures { λ r. ⌜ (r ≡ o + length (completedBytes place prior own)) × (now (out .exit) ≡ over (now (out .entry)) o (completedBytes place prior own)) ⌝ }
-{
-    if place == 0 {
-        return o;
-    }
-    out[o] = completed(place, prior, own);
-    o + 1
+// Where whole groups end, in the text and in the bytes.
+pub struct Ended {
+    pub next: usize,
+    pub end: usize,
 }
 
-// A canonical text, character by character, from the start of a buffer that has room for its bytes.
+// The sextet at a place; 255 past the end, as for a byte outside the alphabet.
+fn sextet_at(table: &[u8; 256], s: &[u8], i: usize) -> u8
+    requires { ⌜ Sextets (now table) ⌝ }
+    ensures { λ r. ⌜ r ≡ sextet (getD (now (s .entry)) i 0) ⌝ }
+{
+    if i < s.len() {
+        return sextet_of(table, s[i]);
+    }
+    255
+}
+
+// Whole groups: four characters to three bytes, as many as stand at the place and fit. One bound for text and room.
+fn decode_groups(table: &[u8; 256], s: &[u8], at: usize, out: &mut [u8], from: usize) -> Ended
+    requires { ⌜ (at ≤ length (now s)) × (from ≤ length (now out)) ⌝ }
+    requires { ⌜ Sextets (now table) ⌝ }
+    ensures { λ r. ⌜ Reached (now (s .entry)) at (now (out .entry)) from (now (out .exit)) (r .next) (r .end) × Stopped (now (s .entry)) (now (out .exit)) (r .next) (r .end) ⌝ }
+{
+    let last = at + min((s.len() - at) / 4, (out.len() - from) / 3) * 4;
+    let mut i = at;
+    let mut o = from;
+    while i < last {
+        let n = four(table, s, i);
+        if 16777215 < n {
+            return Ended { next: i, end: o };
+        }
+        put_three(out, o, n);
+        i += 4;
+        o += 3;
+    }
+    Ended { next: i, end: o }
+}
+
+// The characters after the whole groups: two or three of them, or none.
+fn decode_rest(table: &[u8; 256], s: &[u8], i: usize, out: &mut [u8], o: usize) -> Run
+    requires { ⌜ (i ≤ length (now s)) × (o ≤ length (now out)) × Stopped (now s) (now out) i o ⌝ }
+    requires { ⌜ Sextets (now table) ⌝ }
+    ensures { λ r. ⌜ RunGives (now (s .entry)) i (now (out .entry)) o (now (out .exit)) r ⌝ }
+{
+    let stopped = Run {
+        next: i,
+        end: o,
+        whole: false,
+    };
+    let a = sextet_at(table, s, i);
+    if 63 < a {
+        return Run {
+            next: i,
+            end: o,
+            whole: true,
+        };
+    }
+    let b = sextet_at(table, s, i + 1);
+    if 63 < b {
+        return stopped;
+    }
+    let room = out.len() - o;
+    let c = sextet_at(table, s, i + 2);
+    if 63 < c {
+        if room < 1 {
+            return stopped;
+        }
+        if b % 16 == 0 {
+            put_one(out, o, a, b);
+            return Run {
+                next: i + 2,
+                end: o + 1,
+                whole: true,
+            };
+        }
+        return stopped;
+    }
+    if room < 2 {
+        return stopped;
+    }
+    let d = sextet_at(table, s, i + 3);
+    if d < 64 {
+        return stopped;
+    }
+    if c % 4 == 0 {
+        put_two(out, o, a, b, c);
+        return Run {
+            next: i + 3,
+            end: o + 2,
+            whole: true,
+        };
+    }
+    stopped
+}
+
+// The characters of the alphabet at a place, decoded as far as it goes into `out` from a place on: all of them, where they are a canonical text
+// and their bytes fit; else whole groups, as many as fit. For a reader that decodes where nobody looks and doesn't know yet where a text ends:
+// it refuses nothing, so what it has decoded stays.
+pub fn decode_run(s: &[u8], at: usize, out: &mut [u8], from: usize) -> Run
+    ensures { λ r. ⌜ RunGives (now (s .entry)) at (now (out .entry)) from (now (out .exit)) r ⌝ }
+{
+    if out.len() < from {
+        return Run {
+            next: at,
+            end: from,
+            whole: false,
+        };
+    }
+    if s.len() < at {
+        return Run {
+            next: at,
+            end: from,
+            whole: true,
+        };
+    }
+    let table = &SEXTETS;
+    let g = decode_groups(table, s, at, out, from);
+    decode_rest(table, s, g.next, out, g.end)
+}
+
+// The groups of a canonical text, two a turn, from the start of a buffer that has room for its bytes; fewer than eight characters are left.
+fn decode_pairs(table: &[u8; 256], text: &[u8], out: &mut [u8]) -> Ended
+    requires { ⌜ canonical (now text) ≡ true ⌝ }
+    requires { ⌜ length (decode (now text)) ≤ length (now out) ⌝ }
+    requires { ⌜ Sextets (now table) ⌝ }
+    ensures { λ r. ⌜ Reached (now (text .entry)) 0 (now (out .entry)) 0 (now (out .exit)) (r .next) (r .end) × (length (now (text .entry)) < r .next + 8) ⌝ }
+{
+    let mut i = 0;
+    let mut o = 0;
+    while 8 <= text.len() - i {
+        put_group(table, text, i, out, o);
+        put_group(table, text, i + 4, out, o + 3);
+        i += 8;
+        o += 6;
+    }
+    Ended { next: i, end: o }
+}
+
+// A canonical text, from the start of a buffer that has room for its bytes: pairs of groups, a group that is left, and the rest.
 fn decode_all(table: &[u8; 256], text: &[u8], out: &mut [u8])
     requires { ⌜ canonical (now text) ≡ true ⌝ }
     requires { ⌜ length (decode (now text)) ≤ length (now out) ⌝ }
     requires { ⌜ Sextets (now table) ⌝ }
     ensures { λ _. ⌜ now (out .exit) ≡ decode (now (text .entry)) ++ drop (length (decode (now (text .entry)))) (now (out .entry)) ⌝ }
 {
-    let mut i = 0;
-    let mut o = 0;
-    let mut prior: u8 = 0;
-    while i < text.len() {
-        let own = sextet_of(table, text[i]);
-        o = store_next(i % 4, prior, own, out, o);
-        prior = own;
-        i += 1;
+    let g = decode_pairs(table, text, out);
+    let i = g.next;
+    let o = g.end;
+    if text.len() - i < 4 {
+        decode_rest(table, text, i, out, o);
+        return;
     }
+    put_group(table, text, i, out, o);
+    decode_rest(table, text, i + 4, out, o + 3);
 }
 
 // The bytes of a text into `buf` from `at` on. 12: the text is not canonical; then 17: they don't fit.

@@ -1,4 +1,5 @@
 // A group of four characters, as one number.
+use crate::sextets::bits;
 ghost use mathlib.Core.Path.{_≡_};
 ghost use Rattle.b64.specs.B64.{groupOf};
 
@@ -13,12 +14,8 @@ fn wide(x: u8) -> u32
 pub fn group(a: u8, b: u8, c: u8, d: u8) -> u32
     ensures { λ r. ⌜ r ≡ groupOf a b c d ⌝ }
 {
-    let x = wide(a);
-    let y = wide(b);
-    let z = wide(c);
-    let w = wide(d);
-    if 252 < x + y + z + w {
+    if 252 < wide(a) + wide(b) + wide(c) + wide(d) {
         return 16777216;
     }
-    (x * 64 + y) * 4096 + (z * 64 + w)
+    bits(a, b, c, d)
 }

@@ -3,6 +3,7 @@ pub mod alphabet;
 pub mod canonical;
 pub mod decoder;
 pub mod encoder;
+mod group_bytes;
 pub mod groups;
 pub mod lengths;
 mod letters;

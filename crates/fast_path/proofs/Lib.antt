@@ -1,7 +1,6 @@
 pub mod LeadingNumbers
 pub mod Chains
 pub mod StringLaws
-pub mod RunLaws
 pub mod Closed
 pub mod ItemTexts
 pub mod Stands

@@ -18,19 +18,25 @@ use Rattle.text.proofs.Over.{over-nil, length-over, over-after}
 use Rattle.text.proofs.Runs.{run-length}
 use Rattle.text.proofs.Starts.{starts-first}
 use Rattle.text.proofs.Lists.{length-empty, length-filled}
-use Rattle.b64.specs.B64.{inAlphabet, canonical}
+use Rattle.b64.specs.B64.{inAlphabet, canonical, decode}
+use Rattle.b64.specs.Runs.{textAt, isWhole}
+use Rattle.b64.proofs.RunLaws.{Ran, not-whole}
 use Rattle.table.specs.Limits.{Profile, isSize, noProfile, profileOf, editionTwo}
 use Rattle.table.specs.declared.limits.BytesRule.{BytesRule}
 use Rattle.table.specs.declared.limits.BytesRule.the-variants.{Sized, Forbidden}
 use Rattle.profile.specs.Fields.{FieldSet, fieldSet}
 use Rattle.profile.specs.declared.fields.NumberFields.{NumberFields}
 use Rattle.fast_path.specs.Walk.{Taken, taken, writtenBytes, bytesIn, Pair, pairIn, keysIn, hashesIn, withStrings}
-use Rattle.fast_path.specs.WalkSteps.{textAt, bytesAt, Ran, most, Stored, StoredTwo, contentsFor, roomy, StoredAll}
+use Rattle.fast_path.specs.WalkSteps.{most, Stored, StoredTwo, contentsFor, roomy, StoredAll}
 use Rattle.fast_path.specs.Claims.{mostBytes}
 use Rattle.fast_path.specs.declared.contents.Contents.{Contents}
 use Rattle.fast_path.proofs.Chains.{bytes-absent}
 
 -- ---- one byte string
+
+-- the bytes of the characters at a place
+abbrev bytesAt : List ℕ → ℕ → List ℕ
+bytesAt s at = decode (textAt s at)
 
 pub small : (r : BytesRule) (n : ℕ) → isSize r n ≡ true → n ≤ most r
 small (Sized low high) n e = from-within (low .0) (high .0) n e .1
@@ -42,14 +48,13 @@ large Forbidden n h = refl
 
 module _ (r : BytesRule) (s : List ℕ) (at : ℕ) (out₀ : List ℕ) (from : ℕ) where
   -- the run is no text of so few bytes
-  pub bytes-no : from + most r + 2 ≤ length out₀ → (canonical (textAt s at) ≡ true → length out₀ < from + length (bytesAt s at) + 2)
-      → writtenBytes r (drop at s) ≡ none
+  pub bytes-no : from + most r ≤ length out₀ → isWhole (length out₀) from (textAt s at) ≡ false → writtenBytes r (drop at s) ≡ none
   bytes-no room h = go (canonical (textAt s at)) refl
     where
       go : (b : Bool) → canonical (textAt s at) ≡ b
           → cond (b && (not (empty (bytesAt s at)) && isSize r (length (bytesAt s at)))) (some (taken (bytesAt s at) 44 (drop (length (textAt s at)) (drop at s)))) none ≡ none
       go true e =
-          let l = h e in
+          let l = not-whole (length out₀) from (textAt s at) h e in
           rw (large r (length (bytesAt s at)) (omega arith), and-false)
       go false e = refl
 
@@ -192,12 +197,12 @@ module _ (r : Profile) (f : NumberFields) (separator : ℕ) (s : List ℕ) (at :
 
 -- the byte strings of every profile of edition two fit
 fits-most : Profile → Bool
-fits-most r = leb (roomy r) (mostBytes + 2)
+fits-most r = leb (roomy r) (mostBytes)
 
 all-fit : all fits-most (noProfile ∷ editionTwo) ≡ true
 unfolding fits-most editionTwo
 all-fit = refl
 
-pub roomy-two : (k : ℕ) → roomy (profileOf editionTwo k) ≤ mostBytes + 2
+pub roomy-two : (k : ℕ) → roomy (profileOf editionTwo k) ≤ mostBytes
 unfolding fits-most
-roomy-two k = leb-true (roomy (profileOf editionTwo k)) (mostBytes + 2) (always fits-most noProfile (noProfile ∷ editionTwo) refl all-fit k)
+roomy-two k = leb-true (roomy (profileOf editionTwo k)) (mostBytes) (always fits-most noProfile (noProfile ∷ editionTwo) refl all-fit k)

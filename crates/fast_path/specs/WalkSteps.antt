@@ -1,16 +1,15 @@
 -- What the private steps of the walk promise each other: places in the string for the texts of the walk, and the bytes that they leave in a
 -- buffer. Nothing here is a rule: no public contract cites it.
 -- Assumes nothing.
-use Prim.Native.Nat.{ℕ, _+_, _*_, _/_, _%_, _≤_, _<_}
+use Prim.Native.Nat.{ℕ, _+_, _≤_}
 use mathlib.Core.Path.{_≡_}
-use mathlib.Core.Bool.{true, cond}
-use mathlib.Core.List.{List, [], _∷_, _++_}
+use mathlib.Core.Bool.{cond}
+use mathlib.Core.List.{List, _++_}
 use mathlib.Core.Option.{Option, none, some}
 use lib.Dec.{eqb}
 use lib.ListN.{length, take, drop}
 use Rattle.text.specs.Place.{over, put}
 use Rattle.text.specs.Text.{run}
-use Rattle.b64.specs.B64.{inAlphabet, canonical, decode}
 use Rattle.decimal.specs.Decimal.{isDigit, value}
 use Rattle.grammar.specs.Bytes.{dollar}
 use Rattle.table.specs.Limits.{Profile}
@@ -24,8 +23,6 @@ use Rattle.fast_path.specs.Walk.{Taken, taken, leadingNumber, Pair}
 use Rattle.fast_path.specs.declared.contents.Contents.{Contents}
 use Rattle.fast_path.specs.declared.leading_number.LeadingNumber.{LeadingNumber}
 use Rattle.fast_path.specs.declared.leading_number.LeadingNumber.the-variants.{No as LeadingNumber·No, Is as LeadingNumber·Is}
-use Rattle.fast_path.specs.declared.run.Run.{Run}
-use Rattle.fast_path.specs.declared.run.Run.the-variants.{No as Run·No, To as Run·To}
 use Rattle.fast_path.specs.declared.items.NumberItem.{NumberItem}
 use Rattle.fast_path.specs.declared.items.NumberItem.the-variants.{No as NumberItem·No, Is as NumberItem·Is}
 use Rattle.fast_path.specs.declared.items.BytesItem.{BytesItem}
@@ -65,52 +62,6 @@ VersionIs o s (VersionItem·Is v next) = (o ≡ some (taken v dollar (drop next 
 abbrev pub HeadIs : Option (Taken NumberFields) → List ℕ → Head → Type 0
 HeadIs o s Head·No = o ≡ none
 HeadIs o s (Head·Is f next separator) = (o ≡ some (taken f separator (drop next s))) × (next ≤ length s)
-
--- ---- a run of B64 characters
-
--- the bytes of 24 bits, of three sextets, and of two
-abbrev pub three : ℕ → List ℕ
-three n = n / 65536 ∷ n / 256 % 256 ∷ n % 256 ∷ []
-
-abbrev pub two : ℕ → ℕ → ℕ → List ℕ
-two a b c = (a * 4 + b / 16) ∷ (b % 16 * 16 + c / 4) ∷ []
-
-abbrev pub one : ℕ → ℕ → List ℕ
-one a b = (a * 4 + b / 16) ∷ []
-
--- the characters at a place, and their bytes
-abbrev pub textAt : List ℕ → ℕ → List ℕ
-textAt s at = run inAlphabet (drop at s)
-
-abbrev pub bytesAt : List ℕ → ℕ → List ℕ
-bytesAt s at = decode (textAt s at)
-
--- whole groups were decoded up to a place: what is left there is what is left of the whole
-pub record Reached (s : List ℕ) (at : ℕ) (out₀ : List ℕ) (from : ℕ) (out : List ℕ) (i o : ℕ) : Type 0 where
-  pub inside : i ≤ length s
-  pub room : o ≤ length out
-  pub size : length out ≡ length out₀
-  pub canonical-left : canonical (textAt s i) ≡ canonical (textAt s at)
-  pub text-left : i + length (textAt s i) ≡ at + length (textAt s at)
-  pub count-left : o + length (bytesAt s i) ≡ from + length (bytesAt s at)
-  pub bytes-left : over out o (bytesAt s i) ≡ over out₀ from (bytesAt s at)
-
--- no further group stands there, or it doesn't fit
-abbrev pub Stopped : List ℕ → List ℕ → ℕ → ℕ → Type 0
-Stopped s out i o = 4 ≤ length (textAt s i) → length out < o + 3
-
--- the run is a canonical text, and its bytes stand in the buffer
-pub record Ran (s : List ℕ) (at : ℕ) (out₀ : List ℕ) (from : ℕ) (out : List ℕ) (next end : ℕ) : Type 0 where
-  pub canonical-is : canonical (textAt s at) ≡ true
-  pub next-is : next ≡ at + length (textAt s at)
-  pub end-is : end ≡ from + length (bytesAt s at)
-  pub room : end ≤ length out₀
-  pub stored : out ≡ over out₀ from (bytesAt s at)
-
--- where it isn't, the text is not canonical, or there was hardly room
-abbrev pub RunIs : List ℕ → ℕ → List ℕ → ℕ → List ℕ → Run → Type 0
-RunIs s at out₀ from out Run·No = canonical (textAt s at) ≡ true → length out₀ < from + length (bytesAt s at) + 2
-RunIs s at out₀ from out (Run·To next end) = Ran s at out₀ from out next end
 
 -- ---- byte strings
 
@@ -163,13 +114,13 @@ contentsFor f keyid «data» salt output =
       output = record { 0 = output };
     }
 
--- room for all four byte strings, and two bytes more for the decoder's test
+-- room for all four byte strings
 abbrev pub roomy : Profile → ℕ
-roomy r = most (r .keyid) + most (r .«data») + most (r .salt) + most (r .output) + 2
+roomy r = most (r .keyid) + most (r .«data») + most (r .salt) + most (r .output)
 
 -- the buffer that the walk decodes into
 abbrev pub bufferLength : ℕ
-bufferLength = 160
+bufferLength = 152
 
 -- the answer that goes with fields: accepted, and each byte string's length
 abbrev pub contentsOf : FieldSet → Contents

@@ -2,8 +2,7 @@
 use crate::begin::begins;
 use crate::leading_number::LeadingNumber;
 use crate::leading_number::number;
-use crate::run::Run;
-use crate::run::decode_run;
+use b64::decoder::decode_run;
 use table::bounds::in_range;
 use table::bounds::is_size;
 use table::limits::BytesRule;
@@ -16,7 +15,6 @@ ghost use Prim.Native.Nat.{ℕ, _+_, _≤_};
 ghost use mathlib.Core.List.{List};
 ghost use lib.ListN.{length, drop};
 ghost use Rattle.text.specs.Text.{andThen};
-ghost use Rattle.b64.specs.B64.{Sextets};
 ghost use Rattle.fast_path.specs.Walk.{leadingNumber, writtenNumber, omittedNumber, numberIn, writtenBytes, bytesIn};
 ghost use Rattle.fast_path.specs.WalkSteps.{NumberIs, most, BytesAre};
 
@@ -72,36 +70,26 @@ pub fn number_item(rule: NumberRule, name: &[u8], s: &[u8], at: usize, separator
 }
 
 // A byte string whose separator and name were read: at least one byte, and as many as permitted.
-fn written_bytes(
-    table: &[u8; 256],
-    rule: BytesRule,
-    s: &[u8],
-    at: usize,
-    out: &mut [u8],
-    from: usize,
-) -> BytesItem
-    requires { ⌜ (at ≤ length (now s)) × (from + most rule + 2 ≤ length (now out)) ⌝ }
-    requires { ⌜ Sextets (now table) ⌝ }
+fn written_bytes(rule: BytesRule, s: &[u8], at: usize, out: &mut [u8], from: usize) -> BytesItem
+    requires { ⌜ (at ≤ length (now s)) × (from + most rule ≤ length (now out)) ⌝ }
     ensures { λ r. ⌜ BytesAre (writtenBytes rule (drop at (now (s .entry)))) (most rule) (now (s .entry)) (now (out .entry)) from (now (out .exit)) r ⌝ }
 {
-    match decode_run(table, s, at, out, from) {
-        Run::No => BytesItem::No,
-        Run::To(next, end) => {
-            let n = end - from;
-            if n == 0 {
-                return BytesItem::No;
-            }
-            if is_size(rule, Bytes(n)) {
-                return BytesItem::To(next, end, b',');
-            }
-            BytesItem::No
-        }
+    let run = decode_run(s, at, out, from);
+    if !run.whole {
+        return BytesItem::No;
     }
+    let n = run.end - from;
+    if n == 0 {
+        return BytesItem::No;
+    }
+    if is_size(rule, Bytes(n)) {
+        return BytesItem::To(run.next, run.end, b',');
+    }
+    BytesItem::No
 }
 
 // A byte string after its separator and its name, or none.
 pub fn bytes_item(
-    table: &[u8; 256],
     rule: BytesRule,
     name: &[u8],
     s: &[u8],
@@ -110,12 +98,11 @@ pub fn bytes_item(
     out: &mut [u8],
     from: usize,
 ) -> BytesItem
-    requires { ⌜ (at ≤ length (now s)) × (from + most rule + 2 ≤ length (now out)) ⌝ }
-    requires { ⌜ Sextets (now table) ⌝ }
+    requires { ⌜ (at ≤ length (now s)) × (from + most rule ≤ length (now out)) ⌝ }
     ensures { λ r. ⌜ BytesAre (bytesIn rule (now (name .entry)) separator (drop at (now (s .entry)))) (most rule) (now (s .entry)) (now (out .entry)) from (now (out .exit)) r ⌝ }
 {
     if begins(s, at, separator, name) {
-        return written_bytes(table, rule, s, at + 1 + name.len(), out, from);
+        return written_bytes(rule, s, at + 1 + name.len(), out, from);
     }
     BytesItem::To(at, from, separator)
 }

@@ -5,6 +5,5 @@ pub mod contents;
 mod items;
 mod leading_number;
 pub mod reader;
-mod run;
 mod strings;
 mod walk;

@@ -3,7 +3,6 @@ use crate::contents::Contents;
 use crate::walk::BUFFER_LEN;
 use crate::walk::Walk;
 use crate::walk::walk_string;
-use b64::alphabet::SEXTETS;
 use profile::fields::Reading;
 use text::place::write_text;
 ghost use Prim.Native.Nat.{_≤_};
@@ -12,24 +11,14 @@ ghost use lib.ListN.{length};
 ghost use Rattle.table.specs.Limits.{editionTwo};
 ghost use Rattle.profile.specs.Entries.{reading};
 ghost use Rattle.fast_path.specs.Contents.{allDecoded, contents};
-ghost use Rattle.fast_path.specs.Walk.{walked};
-ghost use Rattle.fast_path.specs.WalkSteps.{bufferLength, FoundIn, total, StoredIs};
-
-// The walk with the alphabet's own table.
-fn walk_in(s: &[u8], out: &mut [u8]) -> Walk
-    requires { ⌜ bufferLength ≤ length (now out) ⌝ }
-    ensures { λ r. ⌜ FoundIn (walked editionTwo (now (s .entry))) (now (out .entry)) (now (out .exit)) r ⌝ }
-{
-    let table = &SEXTETS;
-    walk_string(table, s, out)
-}
+ghost use Rattle.fast_path.specs.WalkSteps.{total, StoredIs};
 
 // Kind and number fields of a string, or the number of the row that refuses it: what profile::reader::read gives.
 pub fn read(s: &[u8]) -> Reading
     ensures { λ r. ⌜ r ≡ reading editionTwo (now (s .entry)) ⌝ }
 {
     let mut out = [0u8; BUFFER_LEN];
-    match walk_in(s, &mut out) {
+    match walk_string(s, &mut out) {
         Walk::Nothing => profile::reader::read(s),
         Walk::Found(c) => {
             let r = c.reading;
@@ -57,7 +46,7 @@ pub fn read_all(s: &[u8], buf: &mut [u8], at: usize) -> Contents
     ensures { λ r. ⌜ (r ≡ contents editionTwo (now (s .entry)) (now (buf .entry)) at) × (now (buf .exit) ≡ allDecoded editionTwo (now (s .entry)) (now (buf .entry)) at .buffer) ⌝ }
 {
     let mut out = [0u8; BUFFER_LEN];
-    match walk_in(s, &mut out) {
+    match walk_string(s, &mut out) {
         Walk::Nothing => {
             let r = profile::reader::read(s);
             Contents::refused(r.number)

@@ -7,7 +7,6 @@ ghost use Prim.Native.Nat.{_+_, _≤_};
 ghost use mathlib.Core.Path.{_≡_};
 ghost use mathlib.Core.Bool.{false, cond};
 ghost use lib.ListN.{length, drop};
-ghost use Rattle.b64.specs.B64.{Sextets};
 ghost use Rattle.grammar.specs.Bytes.{dollar};
 ghost use Rattle.fast_path.specs.Walk.{pairIn};
 ghost use Rattle.fast_path.specs.WalkSteps.{most, TwoAre};
@@ -27,7 +26,6 @@ fn second_separator(pieces: bool, then: u8) -> u8
 
 // Two byte strings, each after its separator and its name, or none.
 pub fn two_items(
-    table: &[u8; 256],
     a: BytesRule,
     a_name: &[u8],
     b: BytesRule,
@@ -39,15 +37,14 @@ pub fn two_items(
     out: &mut [u8],
     from: usize,
 ) -> Two
-    requires { ⌜ (at ≤ length (now s)) × (from + most a + most b + 2 ≤ length (now out)) ⌝ }
-    requires { ⌜ Sextets (now table) ⌝ }
+    requires { ⌜ (at ≤ length (now s)) × (from + most a + most b ≤ length (now out)) ⌝ }
     ensures { λ r. ⌜ TwoAre (pairIn a (now («a_name» .entry)) b (now («b_name» .entry)) pieces separator (drop at (now (s .entry)))) (most a + most b) (now (s .entry)) (now (out .entry)) from (now (out .exit)) r ⌝ }
 {
-    match bytes_item(table, a, a_name, s, at, separator, out, from) {
+    match bytes_item(a, a_name, s, at, separator, out, from) {
         BytesItem::No => Two::No,
         BytesItem::To(next, middle, then) => {
             let second = second_separator(pieces, then);
-            match bytes_item(table, b, b_name, s, next, second, out, middle) {
+            match bytes_item(b, b_name, s, next, second, out, middle) {
                 BytesItem::No => Two::No,
                 BytesItem::To(last, end, _) => Two::To(last, middle, end),
             }
@@ -57,7 +54,6 @@ pub fn two_items(
 
 // Two byte strings among the parameters. Where there is none, no separator stands there: one test instead of two names.
 pub fn two_keys(
-    table: &[u8; 256],
     a: BytesRule,
     a_name: &[u8],
     b: BytesRule,
@@ -68,24 +64,11 @@ pub fn two_keys(
     out: &mut [u8],
     from: usize,
 ) -> Two
-    requires { ⌜ (at ≤ length (now s)) × (from + most a + most b + 2 ≤ length (now out)) ⌝ }
-    requires { ⌜ Sextets (now table) ⌝ }
+    requires { ⌜ (at ≤ length (now s)) × (from + most a + most b ≤ length (now out)) ⌝ }
     ensures { λ r. ⌜ TwoAre (pairIn a (now («a_name» .entry)) b (now («b_name» .entry)) false separator (drop at (now (s .entry)))) (most a + most b) (now (s .entry)) (now (out .entry)) from (now (out .exit)) r ⌝ }
 {
     if begins(s, at, separator, b"") {
-        return two_items(
-            table,
-            a,
-            a_name,
-            b,
-            b_name,
-            false,
-            s,
-            at,
-            separator,
-            out,
-            from,
-        );
+        return two_items(a, a_name, b, b_name, false, s, at, separator, out, from);
     }
     Two::To(at, from, from)
 }

@@ -24,14 +24,13 @@ ghost use Prim.Native.Nat.{ℕ, _-_, _≤_};
 ghost use mathlib.Core.Path.{_≡_};
 ghost use mathlib.Core.List.{List};
 ghost use lib.ListN.{length, drop};
-ghost use Rattle.b64.specs.B64.{Sextets};
 ghost use Rattle.table.specs.Limits.{editionTwo};
 ghost use Rattle.table.specs.Columns.{listed, profileIn};
 ghost use Rattle.fast_path.specs.Walk.{taken, allowed as allowedVersion, versionIn, numbersIn, headIn, withStrings, fieldsAfterId, walked};
 ghost use Rattle.fast_path.specs.WalkSteps.{VersionIs, HeadIs, kindFor, contentsFor, roomy, bufferLength, FoundIn};
 
-// Room for the four byte strings of any profile, and for the decoder's test of it.
-pub const BUFFER_LEN: usize = 160;
+// Room for the four byte strings of any profile.
+pub const BUFFER_LEN: usize = 152;
 
 // The version, and the place after it.
 pub enum VersionItem {
@@ -174,7 +173,6 @@ fn contents_for(
 
 // The byte strings after the number fields, up to the end.
 fn with_strings(
-    table: &[u8; 256],
     column: Column,
     fields: NumberFields,
     s: &[u8],
@@ -183,28 +181,16 @@ fn with_strings(
     out: &mut [u8],
 ) -> Walk
     requires { ⌜ (at ≤ length (now s)) × (roomy (profileIn column) ≤ length (now out)) ⌝ }
-    requires { ⌜ Sextets (now table) ⌝ }
     ensures { λ r. ⌜ FoundIn (withStrings (profileIn column) (taken fields separator (drop at (now (s .entry))))) (now (out .entry)) (now (out .exit)) r ⌝ }
 {
     let keyid = column.keyid;
     let data = column.data;
     let salt = column.salt;
     let output = column.output;
-    match two_keys(
-        table,
-        keyid,
-        b"keyid=",
-        data,
-        b"data=",
-        s,
-        at,
-        separator,
-        out,
-        0,
-    ) {
+    match two_keys(keyid, b"keyid=", data, b"data=", s, at, separator, out, 0) {
         Two::No => Walk::Nothing,
         Two::To(next, k, d) => {
-            match two_items(table, salt, b"", output, b"", true, s, next, b'$', out, d) {
+            match two_items(salt, b"", output, b"", true, s, next, b'$', out, d) {
                 Two::No => Walk::Nothing,
                 Two::To(last, e, g) => {
                     if last == s.len() {
@@ -218,9 +204,8 @@ fn with_strings(
 }
 
 // What stands after the id.
-fn after_id(table: &[u8; 256], column: Column, id: u8, s: &[u8], at: usize, out: &mut [u8]) -> Walk
+fn after_id(column: Column, id: u8, s: &[u8], at: usize, out: &mut [u8]) -> Walk
     requires { ⌜ (at ≤ length (now s)) × (roomy (profileIn column) ≤ length (now out)) ⌝ }
-    requires { ⌜ Sextets (now table) ⌝ }
     ensures { λ r. ⌜ FoundIn (fieldsAfterId (profileIn column) id (drop at (now (s .entry)))) (now (out .entry)) (now (out .exit)) r ⌝ }
 {
     if !column.known {
@@ -228,23 +213,14 @@ fn after_id(table: &[u8; 256], column: Column, id: u8, s: &[u8], at: usize, out:
     }
     match head_at(column, id, s, at) {
         Head::No => Walk::Nothing,
-        Head::Is(fields, next, separator) => with_strings(
-            table,
-            column,
-            fields,
-            s,
-            next,
-            separator,
-            out,
-        ),
+        Head::Is(fields, next, separator) => with_strings(column, fields, s, next, separator, out),
     }
 }
 
 // The fields of an accepted string, with their byte strings, one after the other, from the start of `out`. Of a string that is longer than any
 // permitted one nothing is read.
-pub fn walk_string(table: &[u8; 256], s: &[u8], out: &mut [u8]) -> Walk
+pub fn walk_string(s: &[u8], out: &mut [u8]) -> Walk
     requires { ⌜ bufferLength ≤ length (now out) ⌝ }
-    requires { ⌜ Sextets (now table) ⌝ }
     ensures { λ r. ⌜ FoundIn (walked editionTwo (now (s .entry))) (now (out .entry)) (now (out .exit)) r ⌝ }
 {
     if s.len() == 0 {
@@ -258,5 +234,5 @@ pub fn walk_string(table: &[u8; 256], s: &[u8], out: &mut [u8]) -> Walk
     }
     let end = next_at(s, 1, b'$');
     let id = id_number(&s[1..end]);
-    after_id(table, column_of(id), id, s, end, out)
+    after_id(column_of(id), id, s, end, out)
 }

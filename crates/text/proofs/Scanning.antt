@@ -1,9 +1,9 @@
 -- One step of a walk over a list from a place: a test of every element, the search for a byte, and two texts side by side.
 -- Assumes nothing.
 use Prim.Native.Nat.{ℕ, suc, _+_, _≤_, _<_}
-use mathlib.Core.Path.{_≡_, refl, ap}
+use mathlib.Core.Path.{_≡_, refl, sym, ap}
 use mathlib.Core.List.{List, [], _∷_}
-use mathlib.Core.Bool.{Bool, true, false, cond, and-false}
+use mathlib.Core.Bool.{Bool, true, false, cond, _&&_, and-assoc, and-false, and-true}
 use native.Mathlib.Omega.{arith}
 use native.Mathlib.Numerals.{add-one}
 use borrow.Author.Tests.{eq-eqb, ne-eqb}
@@ -21,6 +21,13 @@ module _ (f : ℕ → Bool) (s : List ℕ) (i : ℕ) where
 
   pub all-step : i < length s → f (getD s i 0) ≡ true → all f (drop i s) ≡ all f (drop (i + 1) s)
   all-step h e = rw (add-one, drop-cons s i 0 h, e)
+
+  -- the same with a flag that is carried on: every element is looked at
+  pub all-and : (good seen : Bool) → i < length s → seen ≡ f (getD s i 0) → (good && all f (drop i s)) ≡ ((good && seen) && all f (drop (i + 1) s))
+  all-and good seen h e = rw (add-one, drop-cons s i 0 h, e) (sym (and-assoc good (f (getD s i 0)) (all f (drop (suc i) s))))
+
+  pub and-past : (good : Bool) → length s ≤ i → (good && all f (drop i s)) ≡ good
+  and-past good h = rw (all-past h) (and-true good)
 
 module _ (d : ℕ) (s : List ℕ) (i : ℕ) where
   pub find-past : length s ≤ i → find d (drop i s) ≡ 0

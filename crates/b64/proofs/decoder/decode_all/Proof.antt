@@ -1,72 +1,82 @@
--- `b64::decoder::decode_all` meets its contract.
--- Assumes nothing.
-use borrow.Author.Needs.{needs}
+-- `b64::decoder::decode_all` meets its contract. Assumes nothing.
+use Prim.Native.Nat.{_+_, _≤_}
 use native.Mathlib.Omega.{arith}
-use Prim.Native.Nat.{_-_, _%_, _<_}
-use lib.ListN.{length, drop, drop-of-length-le}
-use Rattle.text.proofs.Groups.{Partly, partly-start, partly-end}
-use Rattle.b64.specs.B64.{decode}
-use Rattle.b64.proofs.B64Code.{completedFrom, completed-decode, sextet-at, next-room, next-step}
+use lib.ListN.{length}
+use borrow.Author.Needs.{needs}
+use Rattle.b64.specs.RunSteps.{Reached}
+use Rattle.b64.proofs.RunLaws.{stopped-end, reached-run, group-in, group-room, group-reached, all-decoded}
 use Rattle.b64.proofs.decoder.decode_all.Statement.{statement}
 use Rattle.b64.proofs.decoder.decode_all.Tie as tie
 
-abbrev Inv-loop : tie.InvT-loop
-Inv-loop table text out₀ i₀ o₀ prior₀ out i o prior = (prior < 64) × Partly (decode text) out₀ out o (completedFrom (i % 4) prior (drop i text))
+decode-rest-requires : tie.Need-decode-rest-requires
+decode-rest-requires c κs =
+    let n = c .before in
+    let h = n .before .before .before in
+    let st = h .before .before .before .before in
+    let r = h .decode-pairs .ensures .0 in
+    ((r .inside, r .room, stopped-end (st .args .text .now) 0 (st .args .out .now) 0 _ _ _ r (omega (arith, n .if1 .taken, r .inside))), st .pre .1 .1)
 
-abbrev μ-loop : tie.MeasureT-loop
-μ-loop table text out₀ i₀ o₀ prior₀ out i o prior = length text - i
-
-loop-holds : tie.Need-loop-holds Inv-loop μ-loop
-loop-holds c =
-    let a = c .before .before .args in
-    (omega arith, rw (completed-decode (a .text .now) 0) (partly-start (decode (a .text .now)) (a .out .now)))
-
--- the sextet that was read
-low : (c : tie.After-sextet-of Inv-loop μ-loop) → c .sextet-of .result < 64
-low c =
-    let s = c .before .before .before .before .before .before in
-    omega (arith, c .sextet-of .ensures, sextet-at (s .args .text .now) (s .pre .0) (c .before .before .before .loop .i) (c .before .before .loop-test .taken))
-
-store-next-requires : tie.Need-store-next-requires Inv-loop μ-loop
-store-next-requires c κs =
-    let p = c .before .before .before .before in
-    let s = p .before .before .before in (
-      (p .loop .inv .0, low (c .before)),
-      next-room (s .args .text .now) (s .args .out .now) (p .loop .out) (p .loop .i) (p .loop .o) (p .loop .prior) _ (c .before .before .before .loop-test .taken)
-          (c .before .sextet-of .ensures) (p .loop .inv .1) (s .pre .1 .0),
-    )
-
-loop-again : tie.Need-loop-again Inv-loop μ-loop
-loop-again c =
-    let p = c .before .before .before .before .before .before .before in
-    let s = p .before .before .before in
-    let r = c .before .before .before .before in (
-      low r,
-      next-step (s .args .text .now) (s .args .out .now) (p .loop .out) (p .loop .i) (p .loop .o) (p .loop .prior) _ (r .before .before .loop-test .taken)
-          (r .sextet-of .ensures) (p .loop .inv .1) (s .pre .1 .0) _ _ (c .before .before .store-next .ensures .0) (c .before .before .store-next .ensures .1),
-    )
-
-same-length : tie.Need-same-length Inv-loop μ-loop
-same-length c = c .before .loop .inv .1 .keeps
-
-returns : tie.Need-returns Inv-loop μ-loop
+returns : tie.Need-returns
 returns c =
-    let p = c .before in
-    let a = p .before .before .before .args in
-    partly-end (decode (a .text .now)) (a .out .now) (p .loop .out) (p .loop .o) (rw (drop-of-length-le (a .text .now) (c .loop-test .left)) at (p .loop .inv .1))
+    let q = c .before .before in
+    let n = q .before .before in
+    let h = n .before .before .before in
+    let st = h .before .before .before .before in
+    let t = st .args .text .now in
+    let d = st .args .out .now in
+    let r = h .decode-pairs .ensures .0 in
+    all-decoded t (st .pre .0) d _ (st .pre .1 .0) _
+    (reached-run t 0 d 0 _ _ _ r (stopped-end t 0 d 0 _ _ _ r (omega (arith, n .if1 .taken, r .inside))) _ _ (q .decode-rest .ensures))
+
+-- a group is left
+left : (c : tie.Else1) → let h = c .before .before .before in h .decode-pairs .result .next + 4 ≤ length (h .before .before .before .before .args .text .now)
+left c = omega (arith, c .if1 .left, c .before .before .before .decode-pairs .ensures .0 .inside)
+
+put-group-requires : tie.Need-put-group-requires
+put-group-requires c κs =
+    let n = c .before in
+    let h = n .before .before .before in
+    let st = h .before .before .before .before in
+    let t = st .args .text .now in (
+      (left n, group-room t (st .pre .0) (st .args .out .now) (st .pre .1 .0) _ _ _ (h .decode-pairs .ensures .0) (left n), group-in t (st .pre .0) _ (left n)),
+      st .pre .1 .1,
+    )
+
+decode-rest-requires-2 : tie.Need-decode-rest-requires-2
+decode-rest-requires-2 c κs =
+    let g = c .before .before .before in
+    let n = g .before .before in
+    let h = n .before .before .before in
+    let st = h .before .before .before .before in
+    let t = st .args .text .now in
+    let r = group-reached t (st .pre .0) (st .args .out .now) (st .pre .1 .0) _ _ _ (h .decode-pairs .ensures .0) (left n) _ (g .put-group .ensures) in
+    ((r .inside, r .room, stopped-end t 0 (st .args .out .now) 0 _ _ _ r (omega (arith, h .decode-pairs .ensures .1))), st .pre .1 .1)
+
+returns-2 : tie.Need-returns-2
+returns-2 c =
+    let q = c .before .before in
+    let g = q .before .before .before .before in
+    let n = g .before .before in
+    let h = n .before .before .before in
+    let st = h .before .before .before .before in
+    let t = st .args .text .now in
+    let d = st .args .out .now in
+    let r = group-reached t (st .pre .0) d (st .pre .1 .0) _ _ _ (h .decode-pairs .ensures .0) (left n) _ (g .put-group .ensures) in
+    all-decoded t (st .pre .0) d _ (st .pre .1 .0) _
+    (reached-run t 0 d 0 _ _ _ r (stopped-end t 0 d 0 _ _ _ r (omega (arith, h .decode-pairs .ensures .1))) _ _ (q .decode-rest2 .ensures))
 
 pub decode-all-spec : {M : Type 1} → statement M
 decode-all-spec =
     tie.close
     (tie.spec
-    Inv-loop
-    μ-loop
-    loop-holds
-    (λ c. search needs)
     (λ c κs. search needs)
-    store-next-requires
+    (λ c. search needs)
+    decode-rest-requires
+    (λ c. search needs)
+    returns
+    put-group-requires
     (λ c. search needs)
     (λ c. search needs)
-    loop-again
-    same-length
-    returns)
+    decode-rest-requires-2
+    (λ c. search needs)
+    returns-2)

@@ -16,7 +16,7 @@ written-bytes-requires c κs =
     let st = b .before .before .before .before in
     let a = st .args in
     let t = starts-text (a .separator ∷ a .name .now) (drop (a .at) (a .s .now)) (sym (b .begins .ensures) ∙ c .before .if1 .taken) in
-    ((omega (arith, length-drop (a .at) (a .s .now)), st .pre .0 .1), st .pre .1)
+    (omega (arith, length-drop (a .at) (a .s .now)), st .pre .1)
 
 returns : tie.Need-returns
 returns c =
@@ -29,7 +29,7 @@ returns-2 : tie.Need-returns-2
 returns-2 c =
     let st = c .before .before .before .before .before in
     let a = st .args in
-    bytes-none (a .rule) (a .name .now) (a .separator) (a .s .now) (a .at) (a .out .now) (a .from) (st .pre .0 .0) (sym (c .before .begins .ensures) ∙ c .if1 .left)
+    bytes-none (a .rule) (a .name .now) (a .separator) (a .s .now) (a .at) (a .out .now) (a .from) (st .pre .0) (sym (c .before .begins .ensures) ∙ c .if1 .left)
 
 pub bytes-item-spec : {M : Type 1} → statement M
 bytes-item-spec =

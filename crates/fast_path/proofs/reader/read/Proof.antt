@@ -8,7 +8,7 @@ returns-2 : tie.Need-returns-2
 returns-2 c =
     let k = c .before .before in
     let w = k .before .before .before in
-    let h = rw (k .c .given .1) at (w .walk-in .ensures) in
+    let h = rw (k .c .given .1) at (w .walk-string .ensures) in
     found-reading _ _ _ _ h
 
 pub read-spec : {M : Type 1} → statement M

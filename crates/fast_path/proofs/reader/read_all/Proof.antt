@@ -11,7 +11,7 @@ store-requires : tie.Need-store-requires
 store-requires c κs =
     let k = c .before .before .before in
     let w = k .before .before .before in
-    let h = rw (k .c .given .1) at (w .walk-in .ensures) in
+    let h = rw (k .c .given .1) at (w .walk-string .ensures) in
     found-room _ _ _ _ h
 
 returns : tie.Need-returns
@@ -19,7 +19,7 @@ returns c =
     let t = c .before .before in
     let w = t .before .before .before in
     let a = w .before .before .before .before .args in
-    all-refused (a .s .now) (a .buf .now) (a .at) (rw (t .enum-told .given .1) at (w .walk-in .ensures)) _ _ (c .before .read .ensures) (c .refused .ensures)
+    all-refused (a .s .now) (a .buf .now) (a .at) (rw (t .enum-told .given .1) at (w .walk-string .ensures)) _ _ (c .before .read .ensures) (c .refused .ensures)
 
 returns-2 : tie.Need-returns-2
 returns-2 c =
@@ -27,7 +27,7 @@ returns-2 c =
     let k = r .before .before .before .before in
     let w = k .before .before .before in
     let a = w .before .before .before .before .args in
-    let h = rw (k .c .given .1) at (w .walk-in .ensures) in
+    let h = rw (k .c .given .1) at (w .walk-string .ensures) in
     all-found (a .s .now) _ _ _ h (a .buf .now) (a .at) _ _ (r .store .ensures)
 
 pub read-all-spec : {M : Type 1} → statement M

@@ -14,8 +14,8 @@ bytes-item-requires-2 c κs =
     let b = n .before .before .before .before in
     let st = b .before .before .before .before .before .before in
     let h = rw (n .next .given .1) at (b .bytes-item .ensures) in
-    let z = stored-size _ _ _ _ _ _ _ _ _ h (omega (arith, st .pre .0 .1)) in
-    ((h .inside, omega (arith, z, h .end-is, h .small, st .pre .0 .1)), st .pre .1)
+    let z = stored-size _ _ _ _ _ _ _ _ _ h (omega (arith, st .pre .1)) in
+    (h .inside, omega (arith, z, h .end-is, h .small, st .pre .1))
 
 returns : tie.Need-returns
 returns c =
@@ -46,7 +46,7 @@ returns-3 c =
     let h = rw (n .next .given .1) at (b .bytes-item .ensures) in
     let y = rw (l .last .given .1) at (d .bytes-item2 .ensures) in
     both-strings (a .a) (a .a-name .now) (a .b) (a .b-name .now) (a .pieces) (a .separator) (a .s .now) (a .at) (a .out .now) (a .from) _ _ _ _ h _ (m .second-separator .ensures)
-    (omega (arith, st .pre .0 .1)) _ _ _ _ y
+    (omega (arith, st .pre .1)) _ _ _ _ y
 
 pub two-items-spec : {M : Type 1} → statement M
 two-items-spec =

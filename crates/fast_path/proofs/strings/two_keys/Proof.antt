@@ -11,7 +11,7 @@ returns-2 c =
     let st = c .before .before .before .before .before .before .before in
     let a = st .args in
     no-strings (a .a) (a .a-name .now) (a .b) (a .b-name .now) (a .separator) (a .s .now) (a .at) (a .out .now) (a .from)
-    (st .pre .0 .0) (omega (arith, st .pre .0 .1)) (sym (c .before .begins .ensures) ∙ c .if1 .left)
+    (st .pre .0) (omega (arith, st .pre .1)) (sym (c .before .begins .ensures) ∙ c .if1 .left)
 
 pub two-keys-spec : {M : Type 1} → statement M
 two-keys-spec =

@@ -20,7 +20,7 @@ with-strings-requires c κs =
     let h = k .before .before in
     let st = h .before .before .before .before .before in
     let q = rw (k .fields .given .1) at (h .head-at .ensures) in
-    ((q .1, st .pre .0 .1), st .pre .1)
+    (q .1, st .pre .1)
 
 returns-2 : tie.Need-returns-2
 returns-2 c =

@@ -35,7 +35,7 @@ after-id-requires c κs =
     let n = k .before .before .before in
     let st = n .before .before .before .before .before .before .before in
     let l : roomy (profileIn (k .column-of .result)) ≡ roomy (profileOf editionTwo (k .before .id-number .result)) = ap roomy (k .column-of .ensures .0) in
-    ((end-inside n, omega (arith, l, roomy-two (k .before .id-number .result), st .pre .0)), st .pre .1)
+    (end-inside n, omega (arith, l, roomy-two (k .before .id-number .result), st .pre))
 
 returns-4 : tie.Need-returns-4
 returns-4 c =

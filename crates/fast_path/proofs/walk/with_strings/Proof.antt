@@ -15,8 +15,8 @@ two-items-requires c κs =
     let k = n .before .before .before .before in
     let st = k .before .before .before .before .before .before in
     let h = rw (n .next .given .1) at (k .two-keys .ensures) in
-    let z = stored-two-size _ _ _ _ _ _ _ _ _ h (omega (arith, st .pre .0 .1)) in
-    ((h .inside, omega (arith, z, h .middle-is, h .end-is, h .small, st .pre .0 .1)), st .pre .1)
+    let z = stored-two-size _ _ _ _ _ _ _ _ _ h (omega (arith, st .pre .1)) in
+    (h .inside, omega (arith, z, h .middle-is, h .end-is, h .small, st .pre .1))
 
 contents-for-requires : tie.Need-contents-for-requires
 contents-for-requires c κs =
@@ -46,7 +46,7 @@ returns c =
     let a = st .args in
     let h = rw (n .next .given .1) at (k .two-keys .ensures) in
     let y = rw (e .last .given .1) at (w .two-items .ensures) in
-    all-strings (profileIn (a .column)) (a .fields) (a .separator) (a .s .now) (a .at) (a .out .now) _ _ _ _ h _ _ _ _ y (st .pre .0 .1) (c .before .if1 .taken) _ (c .contents-for .ensures)
+    all-strings (profileIn (a .column)) (a .fields) (a .separator) (a .s .now) (a .at) (a .out .now) _ _ _ _ h _ _ _ _ y (st .pre .1) (c .before .if1 .taken) _ (c .contents-for .ensures)
 
 returns-2 : tie.Need-returns-2
 returns-2 c =

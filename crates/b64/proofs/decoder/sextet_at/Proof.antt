@@ -1,8 +1,8 @@
--- `fast_path::run::sextet_at` meets its contract. Assumes nothing.
+-- `b64::decoder::sextet_at` meets its contract. Assumes nothing.
 use borrow.Author.Needs.{needs}
-use Rattle.fast_path.proofs.RunLaws.{sextet-past}
-use Rattle.fast_path.proofs.run.sextet_at.Statement.{statement}
-use Rattle.fast_path.proofs.run.sextet_at.Tie as tie
+use Rattle.b64.proofs.RunLaws.{sextet-past}
+use Rattle.b64.proofs.decoder.sextet_at.Statement.{statement}
+use Rattle.b64.proofs.decoder.sextet_at.Tie as tie
 
 returns-2 : tie.Need-returns-2
 returns-2 c = sextet-past (c .before .before .args .s .now) (c .before .before .args .i) (c .if1 .left)

@@ -1,9 +1,9 @@
--- `fast_path::run::put_one` meets its contract. Assumes nothing.
+-- `b64::group_bytes::put_one` meets its contract. Assumes nothing.
 use native.Mathlib.Omega.{arith}
 use borrow.Author.Needs.{needs}
 use Rattle.text.proofs.Over.{over-set}
-use Rattle.fast_path.proofs.run.put_one.Statement.{statement}
-use Rattle.fast_path.proofs.run.put_one.Tie as tie
+use Rattle.b64.proofs.group_bytes.put_one.Statement.{statement}
+use Rattle.b64.proofs.group_bytes.put_one.Tie as tie
 
 returns : tie.Need-returns
 returns c = over-set (c .args .out .now) (c .args .o) _ (omega arith)

@@ -1,9 +1,9 @@
--- `fast_path::run::four` meets its contract. Assumes nothing.
+-- `b64::group_bytes::four` meets its contract. Assumes nothing.
 use mathlib.Core.Path.{_∙_}
 use borrow.Author.Needs.{needs}
 use Rattle.b64.specs.B64.{groupOf}
-use Rattle.fast_path.proofs.run.four.Statement.{statement}
-use Rattle.fast_path.proofs.run.four.Tie as tie
+use Rattle.b64.proofs.group_bytes.four.Statement.{statement}
+use Rattle.b64.proofs.group_bytes.four.Tie as tie
 
 returns : tie.Need-returns
 returns c =

@@ -1,10 +1,10 @@
--- `fast_path::run::put_two` meets its contract. Assumes nothing.
+-- `b64::group_bytes::put_two` meets its contract. Assumes nothing.
 use native.Mathlib.Omega.{arith}
 use lib.ListN.{length-set}
 use borrow.Author.Needs.{needs}
 use Rattle.text.proofs.Over.{over-set-two}
-use Rattle.fast_path.proofs.run.put_two.Statement.{statement}
-use Rattle.fast_path.proofs.run.put_two.Tie as tie
+use Rattle.b64.proofs.group_bytes.put_two.Statement.{statement}
+use Rattle.b64.proofs.group_bytes.put_two.Tie as tie
 
 slice-write-out-2 : tie.Need-slice-write-out-2
 slice-write-out-2 c = simp length-set (omega arith)
