@@ -1,8 +1,11 @@
 //! Times account text judged in batches beside the listing's judging of it (crates/peers), on the same text in one run.
 
+mod timing;
+
 use std::hint::black_box;
 use std::ops::Range;
 use std::time::Instant;
+use timing::quartiles;
 
 extern "C" {
     fn phc_judge(
@@ -39,13 +42,6 @@ fn batches(text: &[u8], part: &Range<usize>, limit: usize) -> usize {
         accepted += answers[..number(&result[8..])].iter().filter(|answer| **answer == 0).count();
     }
     accepted
-}
-
-/// The samples at a quarter, the half and three quarters.
-fn quartiles(samples: &[f64]) -> [f64; 3] {
-    let mut sorted = samples.to_vec();
-    sorted.sort_by(f64::total_cmp);
-    [1, 2, 3].map(|quarter| sorted[sorted.len() * quarter / 4])
 }
 
 /// Parts of so many lines that a batch of 100 ends with each; the last may be shorter.

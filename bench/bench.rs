@@ -4,6 +4,8 @@
 //! The second table is of long strings, all refused, the third of the directory spelling: a ratio there that is past its limit ends the run
 //! non-zero.
 
+mod timing;
+
 #[allow(dead_code)]
 #[path = "../tests/library.rs"]
 mod library;
@@ -16,6 +18,7 @@ use library::*;
 use std::ffi::CString;
 use std::hint::black_box;
 use std::time::{Duration, Instant};
+use timing::quartiles;
 
 const ROUNDS: usize = 15;
 const CALLS: u64 = 100_000;
@@ -355,13 +358,6 @@ fn time(reader: &Reader, s: &Text, calls: u64) -> Duration {
 
 fn nanoseconds(reader: &Reader, s: &Text, calls: u64) -> f64 {
     time(reader, s, calls).as_nanos() as f64 / calls as f64
-}
-
-/// The samples at a quarter, the half and three quarters.
-fn quartiles(samples: &[f64]) -> [f64; 3] {
-    let mut sorted = samples.to_vec();
-    sorted.sort_by(f64::total_cmp);
-    [1, 2, 3].map(|quarter| sorted[sorted.len() * quarter / 4])
 }
 
 fn table_head() {

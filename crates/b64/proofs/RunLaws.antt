@@ -7,13 +7,14 @@ use mathlib.Core.List.{List, [], _∷_, _++_, append-assoc, append-nil}
 use native.Mathlib.Omega.{arith}
 use native.Mathlib.Decide.{decLt}
 use lib.Dec.{eqb, leb}
-use lib.ListN.{length, take, drop, getD, length-append, length-drop, List·getD-eq-default}
-use lib.Seq.{take-at}
-use borrow.Author.Tests.{lt-ltb, le-ltb, le-leb, lt-leb, leb-false, eq-eqb, ne-eqb}
-use Rattle.text.specs.Text.{within}
+use lib.ListN.{length, take, drop, getD, length-append, length-drop, take-append-drop, List·getD-eq-default}
+use lib.Seq.{take-at, length-take-le}
+use borrow.Author.Tests.{lt-ltb, le-ltb, le-leb, lt-leb, leb-true, leb-false, eq-eqb, ne-eqb}
+use Rattle.text.specs.Text.{within, startsWith}
 use Rattle.text.specs.Place.{hasRoom, over}
 use Rattle.text.proofs.Tests.{both, and-true, from-within}
 use Rattle.text.proofs.Over.{over-nil, over-start, over-after, length-over}
+use Rattle.text.proofs.Starts.{starts-own}
 use Rattle.text.proofs.Runs.{run-go, run-stop, run-past, run-on, run-length}
 use Rattle.b64.specs.B64.{sextet, inAlphabet, canonical, decode, groupOf}
 use Rattle.b64.specs.B64Steps.{bitsOf, groupAt, three, two, one}
@@ -222,13 +223,42 @@ module _ (s : List ℕ) (i : ℕ) (out : List ℕ) (o : ℕ) (u : List ℕ) (d :
         left-is = w ∙ ap (λ (l : List ℕ). over out o (decode l)) (sym d);
       }
 
-decoded-whole : (size from : ℕ) (t : List ℕ) → isWhole size from t ≡ true → decodedOf size from t ≡ t
+pub decoded-whole : (size from : ℕ) (t : List ℕ) → isWhole size from t ≡ true → decodedOf size from t ≡ t
 unfolding decodedOf
 decoded-whole size from t c = rw c
 
 decoded-part : (size from : ℕ) (t : List ℕ) → isWhole size from t ≡ false → (n : ℕ) → min (length t / 4) ((size - from) / 3) * 4 ≡ n → decodedOf size from t ≡ take n t
 unfolding decodedOf
 decoded-part size from t c n e = rw (c, e)
+
+-- so many characters of a text, whole groups of them
+part-length : (size from : ℕ) (t : List ℕ) → let n = min (length t / 4) ((size - from) / 3) * 4 in length (take n t) ≡ n
+part-length size from t = length-take-le (min (length t / 4) ((size - from) / 3) * 4) t (omega arith)
+
+pub decoded-groups : (size from : ℕ) (t : List ℕ) → isWhole size from t ≡ false → length (decodedOf size from t) % 4 ≡ 0
+decoded-groups size from t c = omega (arith, ap length (decoded-part size from t c _ refl), part-length size from t)
+
+pub decoded-begins : (size from : ℕ) (t : List ℕ) → startsWith (decodedOf size from t) t ≡ true
+unfolding decodedOf
+decoded-begins size from t = go (isWhole size from t)
+  where
+    begin : (n : ℕ) → startsWith (take n t) t ≡ true
+    begin n = ap (startsWith (take n t)) (sym (take-append-drop n t)) ∙ starts-own (take n t) (drop n t)
+
+    go : (b : Bool) → startsWith (cond b t (take (min (length t / 4) ((size - from) / 3) * 4) t)) t ≡ true
+    go true = ap (startsWith t) (sym (append-nil t)) ∙ starts-own t []
+    go false = begin (min (length t / 4) ((size - from) / 3) * 4)
+
+pub decoded-fits : (size from : ℕ) (t : List ℕ) → from ≤ size → from + length (decode (decodedOf size from t)) ≤ size
+unfolding isWhole
+decoded-fits size from t h = go (isWhole size from t) refl
+  where
+    go : (b : Bool) → isWhole size from t ≡ b → from + length (decode (decodedOf size from t)) ≤ size
+    go true c =
+        let l = leb-true (from + length (decode t)) size (both (canonical t) (hasRoom size from (length (decode t))) c .1) in
+        omega (arith, ap (λ (u : List ℕ). length (decode u)) (decoded-whole size from t c))
+    go false c =
+        omega (arith, length-decode (decodedOf size from t), ap length (decoded-part size from t c _ refl), part-length size from t)
 
 -- a canonical text that fits is whole, another isn't
 is-whole : (size from : ℕ) (t : List ℕ) → canonical t ≡ true → from + length (decode t) ≤ size → isWhole size from t ≡ true

@@ -1,14 +1,15 @@
 -- What is proved of the definitions, over every text: proofs/Claims.antt has a value of each record.
 -- Assumes nothing.
-use Prim.Native.Nat.{ℕ, _<_}
+use Prim.Native.Nat.{ℕ, _+_, _%_, _≤_, _<_}
 use mathlib.Core.Path.{_≡_}
-use mathlib.Core.Bool.{true}
+use mathlib.Core.Bool.{true, false}
 use mathlib.Core.List.{List}
 use lib.ListN.{length}
-use Rattle.text.specs.Text.{all, isByte}
+use Rattle.text.specs.Text.{all, isByte, startsWith}
 use Rattle.b64.specs.Lengths.{bytesOf, charsOf}
 use Rattle.b64.specs.Table.{sextets}
 use Rattle.b64.specs.B64.{sextet, Sextets, letter, inAlphabet, canonical, decode, encode}
+use Rattle.b64.specs.Runs.{isWhole, decodedOf}
 
 pub record B64Claims : Type 0 where
   -- the two ways of the alphabet undo each other
@@ -26,3 +27,12 @@ pub record B64Claims : Type 0 where
 -- the table SEXTETS holds the sextet of each byte
 pub record TableClaims : Type 0 where
   pub sextets-rule : Sextets sextets
+
+-- what is decoded of a run
+pub record RunClaims : Type 0 where
+  -- all of it where it is canonical and fits; where it isn't, or doesn't, whole groups
+  pub all-of-whole : (size from : ℕ) (t : List ℕ) → isWhole size from t ≡ true → decodedOf size from t ≡ t
+  pub groups-of-part : (size from : ℕ) (t : List ℕ) → isWhole size from t ≡ false → length (decodedOf size from t) % 4 ≡ 0
+  -- the run begins with it, and its bytes fit
+  pub begins-decoded : (size from : ℕ) (t : List ℕ) → startsWith (decodedOf size from t) t ≡ true
+  pub fits-decoded : (size from : ℕ) (t : List ℕ) → from ≤ size → from + length (decode (decodedOf size from t)) ≤ size

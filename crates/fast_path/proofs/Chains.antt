@@ -1,8 +1,8 @@
 -- The steps of the walk, one after the other: what each leaf finds makes up what the whole finds.
 -- Assumes nothing.
-use Prim.Native.Nat.{ℕ, suc, _+_, _-_}
-use mathlib.Core.Path.{_≡_, refl, sym, ap}
-use mathlib.Core.Bool.{true, false, not}
+use Prim.Native.Nat.{ℕ, zero, suc, _+_, _-_, _≤_, _<_}
+use mathlib.Core.Path.{_≡_, refl, ap, _∙_}
+use mathlib.Core.Bool.{true, false, not, cond}
 use mathlib.Core.List.{List, [], _∷_}
 use mathlib.Core.Option.{Option, none, some}
 use native.Mathlib.Omega.{arith}
@@ -12,10 +12,6 @@ use borrow.Author.Tests.{ne-eqb}
 use Rattle.text.specs.Text.{text, find, nextAt, startsWith, andThen}
 use Rattle.text.proofs.Tests.{is-true, is-false}
 use Rattle.text.proofs.Prefixes.{rest-at}
-use Rattle.decimal.specs.declared.reader.Limited.{Limited}
-use Rattle.decimal.specs.declared.reader.Limited.the-variants.{Malformed, Outside, Value}
-use Rattle.grammar.specs.Bytes.{dollar}
-use Rattle.grammar.specs.Rules.{versionReading, isVersion}
 use Rattle.table.specs.Limits.{Profile, memoryTooLittle, inRange, idOf, profileOf, isOmitted}
 use Rattle.table.specs.declared.limits.NumberRule.{NumberRule}
 use Rattle.table.specs.declared.limits.BytesRule.{BytesRule}
@@ -23,6 +19,8 @@ use Rattle.table.specs.declared.version.Version.{Version}
 use Rattle.table.specs.declared.version.Version.the-variants.{Absent, Number}
 use Rattle.profile.specs.declared.fields.NumberFields.{NumberFields}
 use Rattle.fast_path.specs.Walk.{Taken, taken, leadingNumber, writtenNumber, omittedNumber, numberIn, writtenBytes, bytesIn, allowed, versionIn, numbersIn, headIn, withStrings, fieldsAfterId, walked}
+use Rattle.fast_path.specs.WalkSteps.{ruleAt, letterAt, withNumber}
+use Rattle.fast_path.specs.declared.numbers.Costs.{Costs}
 
 -- ---- a number
 
@@ -59,30 +57,14 @@ module _ (r : BytesRule) (name : List ℕ) (separator : ℕ) (s : List ℕ) (at 
 
 -- ---- the version
 
-module _ (vs s : List ℕ) (at end : ℕ) (q : end ≡ nextAt dollar s (at + 1)) (r : Limited) (w : r ≡ versionReading (take (end - (at + 1)) (drop (at + 1) s)))
-    (e : startsWith (text "$v=") (drop at s) ≡ true) where
-  -- the piece of the walk is the one that was read
-  piece-is : versionReading (take (find dollar (drop 1 (drop at s))) (drop 1 (drop at s))) ≡ r
-  piece-is =
-      let n : end - (at + 1) ≡ find dollar (drop (at + 1) s) = omega (arith, q) in
-      rw (drop-drop 1 at s, ← n) (sym w)
+module _ (vs s : List ℕ) (at : ℕ) (e : startsWith (text "$v=") (drop at s) ≡ true) where
+  pub version-none : leadingNumber (drop (at + 3) s) ≡ none → versionIn vs (drop at s) ≡ none
+  unfolding versionIn
+  version-none q = rw (e, drop-drop 3 at s, q)
 
-  rest-is : drop (find dollar (drop 1 (drop at s))) (drop 1 (drop at s)) ≡ drop end s
-  rest-is =
-      let n : at + 1 + find dollar (drop (at + 1) s) ≡ end = omega (arith, q) in
-      rw (drop-drop 1 at s, drop-drop (find dollar (drop (at + 1) s)) (at + 1) s) (ap (λ (k : ℕ). drop k s) n)
-
-  pub version-malformed : r ≡ Malformed → versionIn vs (drop at s) ≡ none
-  unfolding versionIn isVersion
-  version-malformed v = rw (e, piece-is, v)
-
-  pub version-outside : r ≡ Outside → versionIn vs (drop at s) ≡ none
-  unfolding versionIn isVersion
-  version-outside v = rw (e, piece-is, v)
-
-  pub version-there : (n : ℕ) → r ≡ Value n → versionIn vs (drop at s) ≡ allowed vs (Number n) (drop end s)
-  unfolding versionIn isVersion
-  version-there n v = rw (e, piece-is, v) (ap (allowed vs (Number n)) rest-is)
+  pub version-there : (n : ℕ) (t : List ℕ) → leadingNumber (drop (at + 3) s) ≡ some (n, t) → versionIn vs (drop at s) ≡ allowed vs (Number n) t
+  unfolding versionIn
+  version-there n t q = rw (e, drop-drop 3 at s, q)
 
 module _ (vs s : List ℕ) (at : ℕ) where
   pub version-absent : startsWith (text "$v=") (drop at s) ≡ false → versionIn vs (drop at s) ≡ allowed vs Absent (drop at s)
@@ -91,29 +73,66 @@ module _ (vs s : List ℕ) (at : ℕ) where
 
 -- ---- m, t and p
 
-module _ (r : Profile) (k : ℕ) (v : Version) (s : List ℕ) where
-  pub no-m : numberIn (r .m) (text "m=") 36 s ≡ none → numbersIn r k v s ≡ none
+module _ (r : Profile) (k : ℕ) (v : Version) where
+  -- all three are found
+  abbrev numbersEnd : Costs → ℕ → List ℕ → Option (Taken NumberFields)
+  numbersEnd c separator s =
+      cond (memoryTooLittle (c .m) (c .p)) none (some (taken (record { id = k; version = v; m = c .m; t = c .t; p = c .p }) separator s))
+
+  -- p is left, and t and p
+  abbrev numbersLast : Costs → ℕ → List ℕ → Option (Taken NumberFields)
+  numbersLast c separator s = andThen (numberIn (r .p) (text "p=") separator s) (λ (x : Taken ℕ). numbersEnd (withNumber c 2 (x .found)) (x .separator) (x .rest))
+
+  abbrev numbersNext : Costs → ℕ → List ℕ → Option (Taken NumberFields)
+  numbersNext c separator s = andThen (numberIn (r .t) (text "t=") separator s) (λ (x : Taken ℕ). numbersLast (withNumber c 1 (x .found)) (x .separator) (x .rest))
+
+  -- what is left from the number at an index on
+  abbrev pub numbersLeft : ℕ → Costs → ℕ → List ℕ → Option (Taken NumberFields)
+  numbersLeft zero c separator s = andThen (numberIn (r .m) (text "m=") separator s) (λ (x : Taken ℕ). numbersNext (withNumber c 0 (x .found)) (x .separator) (x .rest))
+  numbersLeft (suc zero) c separator s = numbersNext c separator s
+  numbersLeft (suc (suc zero)) c separator s = numbersLast c separator s
+  numbersLeft (suc (suc (suc i))) c separator s = numbersEnd c separator s
+
+  pub numbers-start : (c : Costs) (s : List ℕ) → numbersLeft 0 c 36 s ≡ numbersIn r k v s
   unfolding numbersIn
-  no-m e = rw e
+  numbers-start c s = refl
 
-  module _ (m a : ℕ) (t : List ℕ) (e : numberIn (r .m) (text "m=") 36 s ≡ some (taken m a t)) where
-    pub no-t : numberIn (r .t) (text "t=") a t ≡ none → numbersIn r k v s ≡ none
-    unfolding numbersIn
-    no-t q = rw (e, q)
+  module _ (c : Costs) (separator : ℕ) (s : List ℕ) where
+    pub no-number : (i : ℕ) → i < 3 → numberIn (ruleAt r i) (letterAt i ∷ 61 ∷ []) separator s ≡ none → numbersLeft i c separator s ≡ none
+    no-number zero h e = rw e
+    no-number (suc zero) h e = rw e
+    no-number (suc (suc zero)) h e = rw e
+    no-number (suc (suc (suc i))) h e = absurd (omega arith)
 
-    module _ (n b : ℕ) (u : List ℕ) (q : numberIn (r .t) (text "t=") a t ≡ some (taken n b u)) where
-      pub no-p : numberIn (r .p) (text "p=") b u ≡ none → numbersIn r k v s ≡ none
-      unfolding numbersIn
-      no-p w = rw (e, q, w)
+    pub next-number : (i : ℕ) → i < 3 → (n a : ℕ) (t : List ℕ) → numberIn (ruleAt r i) (letterAt i ∷ 61 ∷ []) separator s ≡ some (taken n a t)
+        → numbersLeft i c separator s ≡ numbersLeft (i + 1) (withNumber c i n) a t
+    next-number zero h n a t e = rw e
+    next-number (suc zero) h n a t e = rw e
+    next-number (suc (suc zero)) h n a t e = rw e
+    next-number (suc (suc (suc i))) h n a t e = absurd (omega arith)
 
-      module _ (p c : ℕ) (x : List ℕ) (w : numberIn (r .p) (text "p=") b u ≡ some (taken p c x)) where
-        pub memory-too-little : memoryTooLittle m p ≡ true → numbersIn r k v s ≡ none
-        unfolding numbersIn
-        memory-too-little h = rw (e, q, w, h)
+    pub memory-too-little : (i : ℕ) → i ≡ 3 → memoryTooLittle (c .m) (c .p) ≡ true → numbersLeft i c separator s ≡ none
+    memory-too-little i q h = ap (λ (j : ℕ). numbersLeft j c separator s) q ∙ rw h
 
-        pub all-numbers : memoryTooLittle m p ≡ false → numbersIn r k v s ≡ some (taken (record { id = k; version = v; m = m; t = n; p = p }) c x)
-        unfolding numbersIn
-        all-numbers h = rw (e, q, w, h)
+    pub all-numbers : (i : ℕ) → i ≡ 3 → memoryTooLittle (c .m) (c .p) ≡ false
+        → numbersLeft i c separator s ≡ some (taken (record { id = k; version = v; m = c .m; t = c .t; p = c .p }) separator s)
+    all-numbers i q h = ap (λ (j : ℕ). numbersLeft j c separator s) q ∙ rw h
+
+-- the number at an index past the second is p
+pub rule-last : (r : Profile) (i : ℕ) → (i ≡ 0 → ⊥) → (i ≡ 1 → ⊥) → r .p ≡ ruleAt r i
+rule-last r zero a b = absurd (a refl)
+rule-last r (suc zero) a b = absurd (b refl)
+rule-last r (suc (suc i)) a b = refl
+
+pub letter-last : (i : ℕ) → (i ≡ 0 → ⊥) → (i ≡ 1 → ⊥) → 112 ≡ letterAt i
+letter-last zero a b = absurd (a refl)
+letter-last (suc zero) a b = absurd (b refl)
+letter-last (suc (suc i)) a b = refl
+
+pub number-last : (c : Costs) (i n : ℕ) → (i ≡ 0 → ⊥) → (i ≡ 1 → ⊥) → record { m = c .m; t = c .t; p = n } ≡ withNumber c i n
+number-last c zero n a b = absurd (a refl)
+number-last c (suc zero) n a b = absurd (b refl)
+number-last c (suc (suc i)) n a b = refl
 
 -- ---- version and numbers
 

@@ -1,8 +1,8 @@
 -- The digits at a place, counted one after the other.
 -- Assumes nothing.
-use Prim.Native.Nat.{ℕ, _+_, _-_, _*_, _≤_, _<_}
+use Prim.Native.Nat.{ℕ, _+_, _-_, _*_, _%_, _^_, _≤_, _<_}
 use mathlib.Core.Path.{_≡_, refl, sym, ap, _∙_}
-use mathlib.Core.Bool.{true, false, and-false}
+use mathlib.Core.Bool.{Bool, true, false, _&&_, and-false}
 use mathlib.Core.List.{List, [], _∷_}
 use mathlib.Core.Option.{none, some}
 use native.Mathlib.Omega.{arith}
@@ -10,7 +10,7 @@ use native.Mathlib.Nat.{add-zero}
 use lib.Dec.{leb}
 use lib.ListN.{length, drop, getD, length-drop}
 use lib.Seq.{drop-drop, getD-drop}
-use borrow.Author.Tests.{le-leb, lt-leb, eq-eqb, ne-eqb}
+use borrow.Author.Tests.{leb-true, le-leb, lt-leb, eq-eqb, ne-eqb}
 use Rattle.text.proofs.Tests.{to-within}
 use Rattle.text.proofs.Runs.{run-go, run-stop, run-past, run-all, run-length, run-first}
 use Rattle.decimal.specs.Decimal.{isDigit, isUnsigned, valueFrom, value}
@@ -23,17 +23,21 @@ no-digit : isDigit 0 ≡ false
 unfolding isDigit
 no-digit = refl
 
-digit-in : (c : ℕ) → 48 ≤ c → c ≤ 57 → isDigit c ≡ true
-unfolding isDigit
-digit-in c p q = to-within 48 57 c p q
+-- d is the byte c less 48, wrapped
+abbrev pub Less48 : ℕ → ℕ → Type 0
+Less48 c d = (d + 48) % 2 ^ 8 ≡ c
 
-pub below-digits : (c : ℕ) → c < 48 → isDigit c ≡ false
+digit-in : (c d : ℕ) → Less48 c d → d ≤ 9 → isDigit c ≡ true
 unfolding isDigit
-below-digits c p = rw (lt-leb 48 c p)
+digit-in c d e h = to-within 48 57 c (omega arith) (omega arith)
 
-pub above-digits : (c : ℕ) → 57 < c → isDigit c ≡ false
+pub other-byte : (c d : ℕ) → Less48 c d → d < 256 → 9 < d → isDigit c ≡ false
 unfolding isDigit
-above-digits c p = rw (lt-leb c 57 p) (and-false (leb 48 c))
+other-byte c d e b h = go (leb 48 c) refl
+  where
+    go : (t : Bool) → leb 48 c ≡ t → (t && leb c 57) ≡ false
+    go true q = let k : 48 ≤ c = leb-true 48 c q in lt-leb c 57 (omega arith)
+    go false q = refl
 
 -- the digits up to i are counted: what is left there is what is left of the whole
 pub record Counting (s : List ℕ) (at n i : ℕ) : Type 0 where
@@ -47,14 +51,15 @@ unfolding value
 counting-start s at h = record { behind = omega arith; inside = h; number-left = refl; length-left = refl }
 
 module _ (s : List ℕ) (at n i : ℕ) (k : Counting s at n i) where
-  pub counting-digit : i < length s → 48 ≤ getD s i 0 → getD s i 0 ≤ 57 → Counting s at (n * 10 + (getD s i 0 - 48)) (i + 1)
+  pub counting-digit : i < length s → (d : ℕ) → Less48 (getD s i 0) d → d ≤ 9 → Counting s at (n * 10 + d) (i + 1)
   unfolding valueFrom
-  counting-digit h p q =
-      let g : digitsAt s i ≡ getD s i 0 ∷ digitsAt s (i + 1) = run-go isDigit no-digit s i (digit-in (getD s i 0) p q) in
+  counting-digit h d e q =
+      let g : digitsAt s i ≡ getD s i 0 ∷ digitsAt s (i + 1) = run-go isDigit no-digit s i (digit-in (getD s i 0) d e q) in
+      let z : getD s i 0 - 48 ≡ d = omega arith in
       record {
         behind = omega (arith, k .behind);
         inside = omega arith;
-        number-left = rw (g) at (k .number-left);
+        number-left = rw (← z) (rw g at (k .number-left));
         length-left = omega (arith, ap length g, k .length-left);
       }
 
@@ -70,11 +75,11 @@ module _ (s : List ℕ) (at n i : ℕ) (k : Counting s at n i) where
   counting-end h = counting-done (run-past isDigit s i h)
 
   -- one digit more makes it too large
-  pub counting-large : i < length s → 48 ≤ getD s i 0 → getD s i 0 ≤ 57 → 429496729 < n → leadingNumber (drop at s) ≡ none
+  pub counting-large : i < length s → (d : ℕ) → Less48 (getD s i 0) d → d ≤ 9 → 429496729 < n → leadingNumber (drop at s) ≡ none
   unfolding leadingNumber
-  counting-large h p q l =
-      let c = counting-digit h p q in
-      let v = value-grows (digitsAt s (i + 1)) (n * 10 + (getD s i 0 - 48)) in
+  counting-large h d e q l =
+      let c = counting-digit h d e q in
+      let v = value-grows (digitsAt s (i + 1)) (n * 10 + d) in
       let w = c .number-left in
       let b : largest32 < value (digitsAt s at) = omega arith in
       rw (lt-leb (value (digitsAt s at)) largest32 b, and-false)

@@ -19,19 +19,17 @@ use Rattle.b64.proofs.B64Laws.{encode-decode, bytes-decode}
 use Rattle.decimal.specs.Decimal.{isDigit, isUnsigned, value, digits}
 use Rattle.decimal.proofs.DecimalLaws.{digits-value}
 use Rattle.grammar.specs.Bytes.{dollar}
-use Rattle.grammar.specs.Pieces.{OptionalText, isVersionPiece}
-use Rattle.grammar.specs.Rules.{isVersion}
 use Rattle.table.specs.Limits.{inRange, isSize, versionAllowed, largest32, isOmitted}
 use Rattle.table.specs.declared.limits.NumberRule.{NumberRule}
 use Rattle.table.specs.declared.limits.NumberRule.the-variants.{Required, Defaulted, Constant}
 use Rattle.table.specs.declared.limits.BytesRule.{BytesRule}
 use Rattle.table.specs.declared.version.Version.{Version}
-use Rattle.profile.specs.Fields.{writeNumber, writeBytes, readVersion, writeVersion}
+use Rattle.table.specs.declared.version.Version.the-variants.{Number}
+use Rattle.profile.specs.Fields.{writeNumber, writeBytes, writeVersion}
 use Rattle.profile.specs.Sound.{soundNumber}
 use Rattle.profile.specs.Writer.{bytesAllowed}
 use Rattle.profile.specs.PieceTexts.{tagged}
-use Rattle.profile.proofs.Codecs.{version-back}
-use Rattle.fast_path.specs.Walk.{Taken, leadingNumber, writtenNumber, omittedNumber, numberIn, bytesIn, versionIn}
+use Rattle.fast_path.specs.Walk.{Taken, leadingNumber, writtenNumber, omittedNumber, numberIn, bytesIn, allowed, versionIn}
 use Rattle.fast_path.proofs.ItemTexts.{Stands}
 
 -- ---- one number
@@ -118,33 +116,11 @@ bytes-then Q r name separator t f h = holds-then (BytesStand r name separator t)
 abbrev pub VersionStands : List ℕ → List ℕ → Taken Version → Type 0
 VersionStands vs t x = (versionAllowed vs (x .found) ≡ true) × (t ≡ tagged (text "$") (writeVersion (x .found)) ++ x .rest)
 
--- the piece after the `$`, up to the next one
-piece-own : (rest : List ℕ)
-    → let u = text "v=" ++ rest in
-    let piece = take (find dollar u) u in
-    (violates isVersionPiece (some piece) ≡ false) × (text "$v=" ++ rest ≡ (text "$" ++ piece) ++ drop (find dollar u) u)
-piece-own rest = (refl, ap (λ (x : List ℕ). text "$v=" ++ x) (sym (take-append-drop (find dollar rest) rest)))
-
-piece-stands : (t : List ℕ) → startsWith (text "$v=") t ≡ true
-    → let u = drop 1 t in
-    let piece = take (find dollar u) u in
-    (violates isVersionPiece (some piece) ≡ false) × (t ≡ (text "$" ++ piece) ++ drop (find dollar u) u)
-piece-stands t s =
-    subst
-    (λ (x : List ℕ). (violates isVersionPiece (some (take (find dollar (drop 1 x)) (drop 1 x))) ≡ false) × (x ≡ (text "$" ++ take (find dollar (drop 1 x)) (drop 1 x)) ++ drop (find dollar (drop 1 x)) (drop 1 x)))
-    (sym (starts-is (text "$v=") t s)) (piece-own (drop 3 t))
-
 pub version-stands : (vs t : List ℕ) → Holds (VersionStands vs t) (versionIn vs t)
 unfolding versionIn
 version-stands vs t =
-    let u = drop 1 t in
-    let piece = take (find dollar u) u in
+    let u = drop 3 t in
     holds-if _ (startsWith (text "$v=") t) _ _
-    (λ s. holds-if _ (isVersion piece) _ _
-    (λ v. holds-if _ (versionAllowed vs (readVersion (some piece))) _ _
-    (λ e.
-    let p = piece-stands t s in
-    (e, p .1 ∙ ap (λ (x : OptionalText). tagged (text "$") x ++ drop (find dollar u) u) (sym (version-back (some piece) (p .0) (not-of-true v)))))
-    (λ e. tt))
-    (λ v. tt))
+    (λ s. holds-then (λ (y : ℕ × List ℕ). u ≡ digits (y .0) ++ y .1) _ (leadingNumber u) (λ (y : ℕ × List ℕ). allowed vs (Number (y .0)) (y .1)) (numeral-stands u) (λ y h.
+    holds-if _ (versionAllowed vs (Number (y .0))) _ _ (λ e. (e, starts-behind (text "$v=") t (digits (y .0)) (y .1) s h)) (λ e. tt)))
     (λ s. (refl, refl))

@@ -85,11 +85,14 @@ module _ (r : BytesRule) (s : List ℕ) (at : ℕ) (out₀ : List ℕ) (from : �
           stored = k .stored;
         }
 
--- the buffer keeps its length
-pub stored-size : (o : Option (Taken (List ℕ))) (high : ℕ) (s out₀ : List ℕ) (from : ℕ) (out : List ℕ) (next end separator : ℕ)
-    → Stored o high s out₀ from out next end separator → from + high ≤ length out₀ → length out ≡ length out₀
-stored-size o high s out₀ from out next end separator x h = ap length (x .stored) ∙ length-over out₀ from (x .bytes) (omega (arith, x .small))
+-- what was room for more is room behind it
+pub stored-room : (o : Option (Taken (List ℕ))) (high : ℕ) (s out₀ : List ℕ) (from : ℕ) (out : List ℕ) (next end separator : ℕ)
+    → Stored o high s out₀ from out next end separator → (more : ℕ) → from + high + more ≤ length out₀ → (next ≤ length s) × (end + more ≤ length out)
+stored-room o high s out₀ from out next end separator x more h =
+    let z : length out ≡ length out₀ = ap length (x .stored) ∙ length-over out₀ from (x .bytes) (omega (arith, x .small)) in
+    (x .inside, omega (arith, x .end-is, x .small))
 
+-- the buffer keeps its length
 pub stored-two-size : (o : Option (Taken Pair)) (high : ℕ) (s out₀ : List ℕ) (from : ℕ) (out : List ℕ) (next middle end : ℕ)
     → StoredTwo o high s out₀ from out next middle end → from + high ≤ length out₀ → length out ≡ length out₀
 stored-two-size o high s out₀ from out next middle end x h =

@@ -9,19 +9,19 @@ use mathlib.Core.Path.{_≡_, refl, _∙_, ap}
 use native.Mathlib.Omega.{arith}
 use lib.Dec.{leb, eqb}
 use lib.ListN.{length}
-use lib.Seq.{take-at, drop-at}
+use lib.Seq.{drop-at}
 use borrow.Author.Tests.{eqb-true, leb-true, le-leb}
 use Rattle.text.specs.Text.{text, within, all, empty, isByte, run, startsWith, andThen}
-use Rattle.text.proofs.Tests.{both, is-true, from-within}
-use Rattle.text.proofs.Lists.{not-in}
+use Rattle.text.proofs.Tests.{both, from-within}
+use Rattle.text.proofs.Lists.{all-has}
 use Rattle.text.proofs.Runs.{run-on}
-use Rattle.text.proofs.Starts.{Begins, behind-tag, find-behind}
+use Rattle.text.proofs.Starts.{behind-tag}
 use Rattle.b64.specs.B64.{sextet, inAlphabet, encode}
 use Rattle.b64.proofs.B64Laws.{canonical-alphabet, decode-encode, canonical-encode}
 use Rattle.decimal.specs.Decimal.{isDigit, isUnsigned, digits}
 use Rattle.decimal.proofs.DecimalLaws.{unsigned-cases, value-digits, digits-unsigned}
-use Rattle.grammar.specs.Bytes.{isValueByte, dollar}
-use Rattle.grammar.specs.Rules.{isVersion}
+use Rattle.grammar.specs.Bytes.{dollar}
+use Rattle.grammar.specs.Limits.{largestVersion}
 use Rattle.table.specs.Limits.{inRange, versionAllowed, largest32, isOmitted}
 use Rattle.table.specs.declared.limits.NumberRule.{NumberRule}
 use Rattle.table.specs.declared.limits.NumberRule.the-variants.{Required, Defaulted, Constant}
@@ -32,8 +32,7 @@ use Rattle.profile.specs.Fields.{writeNumber, writeBytes, writeVersion}
 use Rattle.profile.specs.Sound.{soundNumber, soundVersions}
 use Rattle.profile.specs.Writer.{bytesAllowed}
 use Rattle.profile.specs.PieceTexts.{tagged}
-use Rattle.profile.proofs.Codecs.{digits-values, version-forth}
-use Rattle.fast_path.specs.Walk.{taken, leadingNumber, writtenNumber, omittedNumber, numberIn, writtenBytes, bytesIn, allowed, versionIn}
+use Rattle.fast_path.specs.Walk.{taken, leadingNumber, writtenNumber, omittedNumber, numberIn, writtenBytes, bytesIn, versionIn}
 use Rattle.fast_path.proofs.Closed.{Separator, Closed, run-closed}
 use Rattle.fast_path.proofs.ItemTexts.{Named, separatorAfter, items, separator-after, fresh, Behind, closed-items, starts-fresh}
 
@@ -106,18 +105,13 @@ bytes-reads r (b ∷ bs) name separator rest p a h f =
 -- ---- the version
 
 pub version-reads : (vs : List ℕ) (v : Version) (rest : List ℕ) → soundVersions vs ≡ true → versionAllowed vs v ≡ true
-    → Begins (λ c. c ≡ dollar) rest → startsWith (text "$v=") rest ≡ false
+    → Closed rest → startsWith (text "$v=") rest ≡ false
     → versionIn vs (tagged (text "$") (writeVersion v) ++ rest) ≡ some (taken v dollar rest)
-unfolding versionIn isValueByte
+unfolding versionIn
 version-reads vs Absent rest k e h f = rw f
 version-reads vs (Number n) rest k e h f =
-    let w = version-forth vs (Number n) k e in
-    rw (
-      find-behind dollar (digits n) rest (not-in isValueByte dollar refl (digits n) (digits-values n)) h,
-      take-at (digits n) rest (length (digits n)) refl,
-      drop-at (digits n) rest (length (digits n)) refl,
-      is-true (isVersion (text "v=" ++ digits n)) (w .version),
-    ) (ap (λ (v : Version). allowed vs v rest) (w .reads) ∙ rw e)
+    let w = from-within 0 largestVersion n (all-has (within 0 largestVersion) n vs k e) in
+    rw (numeral-reads n rest (omega arith) h, e)
 
 -- ---- an item, before the items l and a text that stands behind them
 

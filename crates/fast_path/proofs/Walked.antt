@@ -28,7 +28,7 @@ use Rattle.profile.proofs.Written.{written}
 use Rattle.profile.proofs.Accepted.{accepted}
 use Rattle.fast_path.specs.Walk.{taken, versionIn, numbersIn, pairIn, keysIn, hashesIn, headIn, fieldsAfterId, walked, WalkAgrees}
 use Rattle.fast_path.proofs.Closed.{Separator}
-use Rattle.fast_path.proofs.ItemTexts.{Named, separatorAfter, items, separators, begins-tagged, begins-items, separator-after, separators-separator, Behind, starts-fresh, costItems, keyItems, fiveItems, hashesText, restText, pieces-row}
+use Rattle.fast_path.proofs.ItemTexts.{closed-items, Named, separatorAfter, items, separators, begins-tagged, begins-items, separator-after, separators-separator, Behind, starts-fresh, costItems, keyItems, fiveItems, hashesText, restText, pieces-row}
 use Rattle.fast_path.proofs.Taken.{encode-alphabet, bytes-reads, version-reads, number-item, bytes-item}
 use Rattle.fast_path.proofs.Found.{walk-sound}
 
@@ -89,7 +89,7 @@ module _ (e : List Profile) (f : FieldSet) (E : SoundColumn e (f .numbers .id) (
   version-read : versionIn (here e f .versions) (restText (here e f) f) ≡ some (taken (f .numbers .version) 36 (items 36 five hashes))
   version-read =
       version-reads (here e f .versions) (f .numbers .version) (items 36 five hashes) (E .versions) (P .column .version)
-      (begins-items (λ c. c ≡ 36) 36 five hashes refl (begins-hashes (λ c. c ≡ 36) refl)) (starts-fresh 36 36 (text "v=") five hashes behind-items refl)
+      (closed-items 36 five hashes dollar behind-items) (starts-fresh 36 36 (text "v=") five hashes behind-items refl)
 
   numbers-read : numbersIn (here e f) (f .numbers .id) (f .numbers .version) (items 36 five hashes) ≡ some (taken (f .numbers) next (items next keys hashes))
   unfolding numbersIn

@@ -12,13 +12,12 @@ use Rattle.text.specs.Text.{text, empty, find, run, startsWith, andThen}
 use Rattle.b64.specs.B64.{inAlphabet, canonical, decode}
 use Rattle.decimal.specs.Decimal.{isDigit, isUnsigned, value}
 use Rattle.grammar.specs.Bytes.{dollar, comma}
-use Rattle.grammar.specs.Rules.{isVersion}
 use Rattle.table.specs.Limits.{Profile, inRange, memoryTooLittle, isSize, versionAllowed, idOf, profileOf, largest32, isRequired, defaultOf, isOmitted}
 use Rattle.table.specs.declared.limits.NumberRule.{NumberRule}
 use Rattle.table.specs.declared.limits.BytesRule.{BytesRule}
 use Rattle.table.specs.declared.version.Version.{Version}
-use Rattle.table.specs.declared.version.Version.the-variants.{Absent}
-use Rattle.profile.specs.Fields.{FieldSet, fieldSet, readVersion}
+use Rattle.table.specs.declared.version.Version.the-variants.{Absent, Number}
+use Rattle.profile.specs.Fields.{FieldSet, fieldSet}
 use Rattle.profile.specs.Reader.{readerNumber, fieldsOf}
 use Rattle.profile.specs.declared.fields.NumberFields.{NumberFields}
 
@@ -68,14 +67,10 @@ bytesIn r name separator t =
 abbrev pub allowed : List ℕ → Version → List ℕ → Option (Taken Version)
 allowed vs v t = cond (versionAllowed vs v) (some (taken v dollar t)) none
 
--- the version piece goes up to the next `$`
+-- a version after `$v=`, or none
 unfoldable pub versionIn : List ℕ → List ℕ → Option (Taken Version)
 versionIn vs t =
-    let u = drop 1 t in
-    let piece = take (find dollar u) u in
-    cond (startsWith (text "$v=") t)
-    (cond (isVersion piece) (allowed vs (readVersion (some piece)) (drop (find dollar u) u)) none)
-    (allowed vs Absent t)
+    cond (startsWith (text "$v=") t) (andThen (leadingNumber (drop 3 t)) (λ (x : ℕ × List ℕ). allowed vs (Number (x .0)) (x .1))) (allowed vs Absent t)
 
 -- ---- m, t and p, and m at least 8p
 

@@ -1,7 +1,7 @@
 -- What the private steps of the walk promise each other: places in the string for the texts of the walk, and the bytes that they leave in a
 -- buffer. Nothing here is a rule: no public contract cites it.
 -- Assumes nothing.
-use Prim.Native.Nat.{ℕ, _+_, _≤_}
+use Prim.Native.Nat.{ℕ, zero, suc, _+_, _≤_}
 use mathlib.Core.Path.{_≡_}
 use mathlib.Core.Bool.{cond}
 use mathlib.Core.List.{List, _++_}
@@ -13,6 +13,7 @@ use Rattle.text.specs.Text.{run}
 use Rattle.decimal.specs.Decimal.{isDigit, value}
 use Rattle.grammar.specs.Bytes.{dollar}
 use Rattle.table.specs.Limits.{Profile}
+use Rattle.table.specs.declared.limits.NumberRule.{NumberRule}
 use Rattle.table.specs.declared.limits.BytesRule.{BytesRule}
 use Rattle.table.specs.declared.limits.BytesRule.the-variants.{Sized, Forbidden}
 use Rattle.table.specs.declared.version.Version.{Version}
@@ -31,8 +32,9 @@ use Rattle.fast_path.specs.declared.strings.Two.{Two}
 use Rattle.fast_path.specs.declared.strings.Two.the-variants.{No as Two·No, To as Two·To}
 use Rattle.fast_path.specs.declared.walk.VersionItem.{VersionItem}
 use Rattle.fast_path.specs.declared.walk.VersionItem.the-variants.{No as VersionItem·No, Is as VersionItem·Is}
-use Rattle.fast_path.specs.declared.walk.Head.{Head}
-use Rattle.fast_path.specs.declared.walk.Head.the-variants.{No as Head·No, Is as Head·Is}
+use Rattle.fast_path.specs.declared.numbers.Costs.{Costs}
+use Rattle.fast_path.specs.declared.numbers.Head.{Head}
+use Rattle.fast_path.specs.declared.numbers.Head.the-variants.{No as Head·No, Is as Head·Is}
 use Rattle.fast_path.specs.declared.walk.Walk.{Walk}
 use Rattle.fast_path.specs.declared.walk.Walk.the-variants.{Nothing, Found}
 
@@ -54,6 +56,22 @@ LeadingNumberIs s at (LeadingNumber·Is n next) = (leadingNumber (drop at s) ≡
 abbrev pub NumberIs : Option (Taken ℕ) → List ℕ → NumberItem → Type 0
 NumberIs o s NumberItem·No = o ≡ none
 NumberIs o s (NumberItem·Is n next separator) = (o ≡ some (taken n separator (drop next s))) × (next ≤ length s)
+
+-- m, t and p by their order: the rule of each, its name without the `=`, and the numbers with one of them found
+abbrev pub ruleAt : Profile → ℕ → NumberRule
+ruleAt r zero = r .m
+ruleAt r (suc zero) = r .t
+ruleAt r (suc (suc k)) = r .p
+
+abbrev pub letterAt : ℕ → ℕ
+letterAt zero = 109
+letterAt (suc zero) = 116
+letterAt (suc (suc k)) = 112
+
+abbrev pub withNumber : Costs → ℕ → ℕ → Costs
+withNumber c zero n = record { m = n; t = c .t; p = c .p }
+withNumber c (suc zero) n = record { m = c .m; t = n; p = c .p }
+withNumber c (suc (suc k)) n = record { m = c .m; t = c .t; p = n }
 
 abbrev pub VersionIs : Option (Taken Version) → List ℕ → VersionItem → Type 0
 VersionIs o s VersionItem·No = o ≡ none

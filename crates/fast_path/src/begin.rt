@@ -1,7 +1,7 @@
 // Whether a separator and a name stand at a place.
 ghost use Prim.Native.Nat.{_≤_};
 ghost use mathlib.Core.Path.{_≡_};
-ghost use mathlib.Core.List.{_∷_};
+ghost use mathlib.Core.List.{[], _∷_};
 ghost use lib.ListN.{length, drop};
 ghost use Rattle.text.specs.Text.{startsWith};
 
@@ -34,4 +34,15 @@ pub fn begins(s: &[u8], at: usize, separator: u8, name: &[u8]) -> bool
         return false;
     }
     same_at(s, at + 1, name)
+}
+
+// The same for a name of one letter and `=`.
+pub fn begins_letter(s: &[u8], at: usize, separator: u8, letter: u8) -> bool
+    requires { ⌜ at ≤ length (now s) ⌝ }
+    ensures { λ r. ⌜ r ≡ startsWith (separator ∷ letter ∷ 61 ∷ []) (drop at (now (s .entry))) ⌝ }
+{
+    if s.len() - at < 3 {
+        return false;
+    }
+    (s[at] == separator) & (s[at + 1] == letter) & (s[at + 2] == b'=')
 }

@@ -1,5 +1,6 @@
 // One item of a string after its separator and its name, or left out: a number, a byte string.
 use crate::begin::begins;
+use crate::begin::begins_letter;
 use crate::leading_number::LeadingNumber;
 use crate::leading_number::number;
 use b64::decoder::decode_run;
@@ -12,9 +13,10 @@ use table::omitted::is_omitted;
 use table::omitted::is_required;
 use text::units::Bytes;
 ghost use Prim.Native.Nat.{ℕ, _+_, _≤_};
-ghost use mathlib.Core.List.{List};
+ghost use mathlib.Core.List.{List, [], _∷_};
 ghost use lib.ListN.{length, drop};
 ghost use Rattle.text.specs.Text.{andThen};
+ghost use Rattle.grammar.specs.Bytes.{dollar};
 ghost use Rattle.fast_path.specs.Walk.{leadingNumber, writtenNumber, omittedNumber, numberIn, writtenBytes, bytesIn};
 ghost use Rattle.fast_path.specs.WalkSteps.{NumberIs, most, BytesAre};
 
@@ -58,13 +60,13 @@ fn omitted_number(rule: NumberRule, at: usize, separator: u8) -> NumberItem
     NumberItem::Is(default_of(rule), at, separator)
 }
 
-// A number after its separator and its name, or left out.
-pub fn number_item(rule: NumberRule, name: &[u8], s: &[u8], at: usize, separator: u8) -> NumberItem
+// A number after its separator and its name, one letter and `=`; or left out.
+pub fn number_item(rule: NumberRule, letter: u8, s: &[u8], at: usize, separator: u8) -> NumberItem
     requires { ⌜ at ≤ length (now s) ⌝ }
-    ensures { λ r. ⌜ NumberIs (numberIn rule (now (name .entry)) separator (drop at (now (s .entry)))) (now (s .entry)) r ⌝ }
+    ensures { λ r. ⌜ NumberIs (numberIn rule (letter ∷ 61 ∷ []) separator (drop at (now (s .entry)))) (now (s .entry)) r ⌝ }
 {
-    if begins(s, at, separator, name) {
-        return written_number(rule, s, at + 1 + name.len());
+    if begins_letter(s, at, separator, letter) {
+        return written_number(rule, s, at + 3);
     }
     omitted_number(rule, at, separator)
 }
@@ -86,6 +88,20 @@ fn written_bytes(rule: BytesRule, s: &[u8], at: usize, out: &mut [u8], from: usi
         return BytesItem::To(run.next, run.end, b',');
     }
     BytesItem::No
+}
+
+// A byte string that is a piece: it has no name, and a `$` before it.
+pub fn piece_item(rule: BytesRule, s: &[u8], at: usize, out: &mut [u8], from: usize) -> BytesItem
+    requires { ⌜ (at ≤ length (now s)) × (from + most rule ≤ length (now out)) ⌝ }
+    ensures { λ r. ⌜ BytesAre (bytesIn rule [] dollar (drop at (now (s .entry)))) (most rule) (now (s .entry)) (now (out .entry)) from (now (out .exit)) r ⌝ }
+{
+    if s.len() <= at {
+        return BytesItem::To(at, from, b'$');
+    }
+    if s[at] != b'$' {
+        return BytesItem::To(at, from, b'$');
+    }
+    written_bytes(rule, s, at + 1, out, from)
 }
 
 // A byte string after its separator and its name, or none.

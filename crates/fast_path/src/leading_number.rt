@@ -46,18 +46,16 @@ pub fn number(s: &[u8], at: usize) -> LeadingNumber
     let mut n: u64 = 0;
     let mut i = at;
     while i < s.len() {
-        let c = s[i];
-        if c < b'0' {
-            return finished(s, at, n, i);
-        }
-        if b'9' < c {
+        // past 9 where the byte is no digit
+        let d = std::num::wrapping_sub_u8(s[i], b'0');
+        if 9 < d {
             return finished(s, at, n, i);
         }
         // one digit more would pass 2^32 - 1
         if 429496729 < n {
             return LeadingNumber::No;
         }
-        n = n * 10 + wide(c - b'0');
+        n = n * 10 + wide(d);
         i += 1;
     }
     finished(s, at, n, i)

@@ -4,6 +4,7 @@ mod begin;
 pub mod contents;
 mod items;
 mod leading_number;
+mod numbers;
 pub mod reader;
 mod strings;
 mod walk;

@@ -2,10 +2,11 @@
 use crate::begin::begins;
 use crate::items::BytesItem;
 use crate::items::bytes_item;
+use crate::items::piece_item;
 use table::limits::BytesRule;
 ghost use Prim.Native.Nat.{_+_, _≤_};
-ghost use mathlib.Core.Path.{_≡_};
-ghost use mathlib.Core.Bool.{false, cond};
+ghost use mathlib.Core.Bool.{false, true};
+ghost use mathlib.Core.List.{[]};
 ghost use lib.ListN.{length, drop};
 ghost use Rattle.grammar.specs.Bytes.{dollar};
 ghost use Rattle.fast_path.specs.Walk.{pairIn};
@@ -17,20 +18,12 @@ pub enum Two {
     To(usize, usize, usize),
 }
 
-// A piece has its own `$`; a parameter has the separator that the item before it leaves.
-fn second_separator(pieces: bool, then: u8) -> u8
-    ensures { λ r. ⌜ r ≡ cond pieces dollar then ⌝ }
-{
-    if pieces { b'$' } else { then }
-}
-
 // Two byte strings, each after its separator and its name, or none.
-pub fn two_items(
+fn two_items(
     a: BytesRule,
     a_name: &[u8],
     b: BytesRule,
     b_name: &[u8],
-    pieces: bool,
     s: &[u8],
     at: usize,
     separator: u8,
@@ -38,13 +31,12 @@ pub fn two_items(
     from: usize,
 ) -> Two
     requires { ⌜ (at ≤ length (now s)) × (from + most a + most b ≤ length (now out)) ⌝ }
-    ensures { λ r. ⌜ TwoAre (pairIn a (now («a_name» .entry)) b (now («b_name» .entry)) pieces separator (drop at (now (s .entry)))) (most a + most b) (now (s .entry)) (now (out .entry)) from (now (out .exit)) r ⌝ }
+    ensures { λ r. ⌜ TwoAre (pairIn a (now («a_name» .entry)) b (now («b_name» .entry)) false separator (drop at (now (s .entry)))) (most a + most b) (now (s .entry)) (now (out .entry)) from (now (out .exit)) r ⌝ }
 {
     match bytes_item(a, a_name, s, at, separator, out, from) {
         BytesItem::No => Two::No,
         BytesItem::To(next, middle, then) => {
-            let second = second_separator(pieces, then);
-            match bytes_item(b, b_name, s, next, second, out, middle) {
+            match bytes_item(b, b_name, s, next, then, out, middle) {
                 BytesItem::No => Two::No,
                 BytesItem::To(last, end, _) => Two::To(last, middle, end),
             }
@@ -68,7 +60,28 @@ pub fn two_keys(
     ensures { λ r. ⌜ TwoAre (pairIn a (now («a_name» .entry)) b (now («b_name» .entry)) false separator (drop at (now (s .entry)))) (most a + most b) (now (s .entry)) (now (out .entry)) from (now (out .exit)) r ⌝ }
 {
     if begins(s, at, separator, b"") {
-        return two_items(a, a_name, b, b_name, false, s, at, separator, out, from);
+        return two_items(a, a_name, b, b_name, s, at, separator, out, from);
     }
     Two::To(at, from, from)
+}
+
+// Salt and output, each with its own `$`.
+pub fn two_pieces(
+    a: BytesRule,
+    b: BytesRule,
+    s: &[u8],
+    at: usize,
+    out: &mut [u8],
+    from: usize,
+) -> Two
+    requires { ⌜ (at ≤ length (now s)) × (from + most a + most b ≤ length (now out)) ⌝ }
+    ensures { λ r. ⌜ TwoAre (pairIn a [] b [] true dollar (drop at (now (s .entry)))) (most a + most b) (now (s .entry)) (now (out .entry)) from (now (out .exit)) r ⌝ }
+{
+    match piece_item(a, s, at, out, from) {
+        BytesItem::No => Two::No,
+        BytesItem::To(next, middle, _) => match piece_item(b, s, next, out, middle) {
+            BytesItem::No => Two::No,
+            BytesItem::To(last, end, _) => Two::To(last, middle, end),
+        },
+    }
 }

@@ -1,16 +1,15 @@
 // The whole walk: id, version, numbers, byte strings.
-use crate::begin::begins;
+use crate::begin::begins_letter;
 use crate::contents::Contents;
-use crate::items::NumberItem;
-use crate::items::number_item;
+use crate::leading_number::LeadingNumber;
+use crate::leading_number::number;
+use crate::numbers::Head;
+use crate::numbers::numbers;
 use crate::strings::Two;
-use crate::strings::two_items;
 use crate::strings::two_keys;
-use decimal::reader::Limited;
-use grammar::version::version_number;
+use crate::strings::two_pieces;
 use profile::fields::NumberFields;
 use profile::fields::Reading;
-use table::bounds::memory_too_little;
 use table::bounds::version_allowed;
 use table::columns::column_of;
 use table::ids::id_number;
@@ -26,7 +25,7 @@ ghost use mathlib.Core.List.{List};
 ghost use lib.ListN.{length, drop};
 ghost use Rattle.table.specs.Limits.{editionTwo};
 ghost use Rattle.table.specs.Columns.{listed, profileIn};
-ghost use Rattle.fast_path.specs.Walk.{taken, allowed as allowedVersion, versionIn, numbersIn, headIn, withStrings, fieldsAfterId, walked};
+ghost use Rattle.fast_path.specs.Walk.{taken, allowed as allowedVersion, versionIn, headIn, withStrings, fieldsAfterId, walked};
 ghost use Rattle.fast_path.specs.WalkSteps.{VersionIs, HeadIs, kindFor, contentsFor, roomy, bufferLength, FoundIn};
 
 // Room for the four byte strings of any profile.
@@ -36,12 +35,6 @@ pub const BUFFER_LEN: usize = 152;
 pub enum VersionItem {
     No,
     Is(Version, usize),
-}
-
-// The number fields, the place after them, and the separator before the next item.
-pub enum Head {
-    No,
-    Is(NumberFields, usize, u8),
 }
 
 // What the walk found; nothing where the string is no good one.
@@ -64,63 +57,13 @@ fn version_item(versions: Versions, s: &[u8], at: usize) -> VersionItem
     requires { ⌜ at ≤ length (now s) ⌝ }
     ensures { λ r. ⌜ VersionIs (versionIn (listed versions) (drop at (now (s .entry)))) (now (s .entry)) r ⌝ }
 {
-    if begins(s, at, b'$', b"v=") {
-        let start = at + 1;
-        let end = next_at(s, start, b'$');
-        return match version_number(&s[start..end]) {
-            Limited::Malformed => VersionItem::No,
-            Limited::Outside => VersionItem::No,
-            Limited::Value(n) => allowed(versions, Version::Number(n as u32), end),
+    if begins_letter(s, at, b'$', b'v') {
+        return match number(s, at + 3) {
+            LeadingNumber::No => VersionItem::No,
+            LeadingNumber::Is(n, next) => allowed(versions, Version::Number(n), next),
         };
     }
     allowed(versions, Version::Absent, at)
-}
-
-// m, t and p, and m at least 8p.
-fn numbers(column: Column, id: u8, version: Version, s: &[u8], at: usize) -> Head
-    requires { ⌜ at ≤ length (now s) ⌝ }
-    ensures { λ r. ⌜ HeadIs (numbersIn (profileIn column) id version (drop at (now (s .entry)))) (now (s .entry)) r ⌝ }
-{
-    let m_rule = column.m;
-    let t_rule = column.t;
-    let p_rule = column.p;
-    match number_item(m_rule, b"m=", s, at, b'$') {
-        NumberItem::No => Head::No,
-        NumberItem::Is(m, at_t, separator_t) => match number_item(
-            t_rule,
-            b"t=",
-            s,
-            at_t,
-            separator_t,
-        ) {
-            NumberItem::No => Head::No,
-            NumberItem::Is(t, at_p, separator_p) => match number_item(
-                p_rule,
-                b"p=",
-                s,
-                at_p,
-                separator_p,
-            ) {
-                NumberItem::No => Head::No,
-                NumberItem::Is(p, next, separator) => {
-                    if memory_too_little(m, p) {
-                        return Head::No;
-                    }
-                    Head::Is(
-                        NumberFields {
-                            id,
-                            version,
-                            m,
-                            t,
-                            p,
-                        },
-                        next,
-                        separator,
-                    )
-                }
-            },
-        },
-    }
 }
 
 fn head_at(column: Column, id: u8, s: &[u8], at: usize) -> Head
@@ -190,7 +133,7 @@ fn with_strings(
     match two_keys(keyid, b"keyid=", data, b"data=", s, at, separator, out, 0) {
         Two::No => Walk::Nothing,
         Two::To(next, k, d) => {
-            match two_items(salt, b"", output, b"", true, s, next, b'$', out, d) {
+            match two_pieces(salt, output, s, next, out, d) {
                 Two::No => Walk::Nothing,
                 Two::To(last, e, g) => {
                     if last == s.len() {

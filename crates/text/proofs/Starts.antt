@@ -1,9 +1,10 @@
 -- A text that begins with another: what it is, and the test of it place by place; and how a text begins.
 -- Assumes nothing.
 use Prim.Native.Nat.{ℕ, suc, _+_, _≤_, _<_}
-use mathlib.Core.Bool.{Bool, true, false, _&&_, _||_, and-false, true≢false, false≢true, cond, not}
+use mathlib.Core.Bool.{Bool, true, false, _&&_, _||_, and-assoc, and-false, and-true as and-one, true≢false, false≢true, cond, not}
 use mathlib.Core.List.{List, [], _∷_, _++_, append-assoc}
 use mathlib.Core.Path.{_≡_, refl, ap, ap₂, sym, _∙_}
+use native.Mathlib.Nat.{add-assoc}
 use native.Mathlib.Numerals.{add-one}
 use native.Mathlib.Omega.{arith}
 use lib.Dec.{eqb}
@@ -50,6 +51,15 @@ pub starts-short : (l t : List ℕ) → length t < length l → startsWith l t �
 starts-short [] t h = absurd (omega arith)
 starts-short (c ∷ l) [] h = refl
 starts-short (c ∷ l) (d ∷ t) h = rw (starts-short l t (omega arith)) (and-false (eqb d c))
+
+-- three bytes, each tested
+pub starts-three : (x y z : ℕ) (t : List ℕ) (j : ℕ) → j + 3 ≤ length t
+    → ((eqb (getD t j 0) x && eqb (getD t (j + 1) 0) y) && eqb (getD t (j + 2) 0) z) ≡ startsWith (x ∷ y ∷ z ∷ []) (drop j t)
+starts-three x y z t j h =
+    let e₁ : drop j t ≡ getD t j 0 ∷ drop (j + 1) t = rw add-one (drop-cons t j 0 (omega arith)) in
+    let e₂ : drop (j + 1) t ≡ getD t (j + 1) 0 ∷ drop (j + 2) t = rw (← add-one (j + 1), add-assoc) at (drop-cons t (j + 1) 0 (omega arith)) in
+    let e₃ : drop (j + 2) t ≡ getD t (j + 2) 0 ∷ drop (suc (j + 2)) t = drop-cons t (j + 2) 0 (omega arith) in
+    rw (e₁, e₂, e₃) (simp (and-assoc, and-one))
 
 -- what doesn't begin with a byte doesn't begin with more
 pub starts-first : (c : ℕ) (l t : List ℕ) → startsWith (c ∷ []) t ≡ false → startsWith (c ∷ l) t ≡ false

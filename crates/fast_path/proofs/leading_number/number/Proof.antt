@@ -3,7 +3,7 @@ use Prim.Native.Nat.{_-_, _≤_}
 use native.Mathlib.Omega.{arith}
 use lib.ListN.{length}
 use borrow.Author.Needs.{needs}
-use Rattle.fast_path.proofs.LeadingNumbers.{below-digits, above-digits, Counting, counting-start, counting-digit, counting-stop, counting-end, counting-large, numeral-past}
+use Rattle.fast_path.proofs.LeadingNumbers.{other-byte, Counting, counting-start, counting-digit, counting-stop, counting-end, counting-large, numeral-past}
 use Rattle.fast_path.proofs.leading_number.number.Statement.{statement}
 use Rattle.fast_path.proofs.leading_number.number.Tie as tie
 
@@ -21,31 +21,25 @@ loop-holds c = (omega arith, counting-start (c .before .before .args .s .now) (c
 
 finished-requires : tie.Need-finished-requires Inv-loop μ-loop
 finished-requires c κs =
-    let p = c .before .before .before in
-    let q = p .before in
-    (q .if1 .left, counting-stop _ _ _ _ (p .loop .inv .1) (below-digits _ (c .if2 .taken)))
+    let w = c .before in
+    let p = w .before .before .before in
+    let r = w .wrapping-sub-u8 in
+    (p .before .if1 .left, counting-stop _ _ _ _ (p .loop .inv .1) (other-byte _ _ (r .ensures) (r .ok) (c .if2 .taken)))
 
-finished-requires-2 : tie.Need-finished-requires-2 Inv-loop μ-loop
-finished-requires-2 c κs =
-    let p = c .before .before .before .before in
-    let q = p .before in
-    (q .if1 .left, counting-stop _ _ _ _ (p .loop .inv .1) (above-digits _ (c .if3 .taken)))
-
-returns-4 : tie.Need-returns-4 Inv-loop μ-loop
-returns-4 c =
-    let e = c .before .before in
-    let p = e .before .before .before in
-    counting-large _ _ _ _ (p .loop .inv .1) (omega arith) (e .if2 .left) (c .before .if3 .left) (c .if4 .taken)
+returns-3 : tie.Need-returns-3 Inv-loop μ-loop
+returns-3 c =
+    let e = c .before in
+    let l = e .before .before .before in
+    counting-large _ _ _ _ (l .before .loop .inv .1) (l .loop-test .taken) _ (e .before .wrapping-sub-u8 .ensures) (e .if2 .left) (c .if3 .taken)
 
 loop-again : tie.Need-loop-again Inv-loop μ-loop
 loop-again c =
-    let l = c .before in
-    let e = l .before .before in
-    let p = e .before .before .before in
-    (omega (arith, c .wide .ensures), rw (c .wide .ensures) (counting-digit _ _ _ _ (p .loop .inv .1) (omega arith) (e .if2 .left) (l .before .if3 .left)))
+    let e = c .before .before in
+    let l = e .before .before .before in
+    (omega (arith, c .wide .ensures), rw (c .wide .ensures) (counting-digit _ _ _ _ (l .before .loop .inv .1) (l .loop-test .taken) _ (e .before .wrapping-sub-u8 .ensures) (e .if2 .left)))
 
-finished-requires-3 : tie.Need-finished-requires-3 Inv-loop μ-loop
-finished-requires-3 c κs =
+finished-requires-2 : tie.Need-finished-requires-2 Inv-loop μ-loop
+finished-requires-2 c κs =
     let p = c .before in
     (p .before .if1 .left, counting-end _ _ _ _ (p .loop .inv .1) (c .loop-test .left))
 
@@ -58,16 +52,15 @@ number-spec =
     returns
     loop-holds
     (λ c. search needs)
+    (λ c κs. search needs)
     finished-requires
     (λ c. search needs)
-    finished-requires-2
-    (λ c. search needs)
-    returns-4
+    returns-3
     (λ c. search needs)
     (λ c κs. search needs)
     (λ c. search needs)
     (λ c. search needs)
     (λ c. search needs)
     loop-again
-    finished-requires-3
+    finished-requires-2
     (λ c. search needs))
