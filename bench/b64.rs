@@ -92,7 +92,7 @@ fn main() {
     println!("|---|---|---|---|---|");
     let mut past = Vec::new();
     for len in LENGTHS {
-        // Every sextet, in another order at each turn.
+        // Bytes spread over all values, each 256 of them in another order.
         let bytes: Vec<u8> = (0..len * 3 / 4).map(|i| (i * 167 + i / 256 * 29) as u8).collect();
         let text = reference::b64_encode(&bytes);
         assert_eq!(text.len(), len);

@@ -1,5 +1,5 @@
 //! Compares the public decoder of B64, and the plain one of `crates/peers`, with the plain rules of `reference.rs`: on texts good, damaged and
-//! random, of up to 200 characters and of some thousands.
+//! random, of fewer than 200 characters and of some thousands.
 
 mod chance;
 mod lent;
@@ -31,7 +31,7 @@ struct Seen {
     no_room: u64,
     /// Accepted ones by what their length leaves modulo 4.
     rests: [u64; 4],
-    /// Not canonical ones with one byte outside the alphabet, by its place from the text's end, up to 16.
+    /// Texts with one byte outside the alphabet, by its place from the text's end, up to 16.
     outside: [u64; 16],
 }
 
@@ -106,7 +106,7 @@ fn main() {
     };
     let rng = &mut Rng::new(seed);
     let seen = &mut Seen::default();
-    // Every byte at every place of the first three groups and of the rests.
+    // Every byte at every place of texts of up to 16 characters.
     for len in 0..=16 {
         for place in 0..len {
             for byte in 0..=255 {
@@ -125,7 +125,7 @@ fn main() {
                 // The end is where the steps of a decoder differ.
                 let from_end = if rng.once_in(2) { rng.below(len.min(16)) } else { rng.below(len) };
                 text[len - 1 - from_end] = if rng.once_in(2) { rng.pick(OUTSIDE) } else { rng.next() as u8 };
-                if from_end < 16 && reference::b64_decode(&text).is_none() {
+                if from_end < 16 && !ALPHABET.contains(&text[len - 1 - from_end]) {
                     seen.outside[from_end] += 1;
                 }
             }

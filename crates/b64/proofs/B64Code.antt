@@ -51,7 +51,7 @@ module _ (t : List ℕ) where
   unfolding canonical
   canonical-out e = rw (← e)
 
--- ---- the alphabet by tests on the byte, and 01's table: one computed test ties the two
+-- ---- the alphabet by ranges, and the rule of 01's table: one computed test ties the two
 
 tests : ℕ → Bool
 tests c = ((within 65 90 c || within 97 122 c) || within 47 57 c) || eqb c 43

@@ -1,9 +1,12 @@
 -- The claims of specs/Claims.antt, proved.
 -- Assumes nothing.
+use lib.ListN.{drop}
+use Rattle.text.proofs.Runs.{run-all}
+use Rattle.b64.specs.B64.{inAlphabet}
 use Rattle.b64.specs.Claims.{B64Claims, TableClaims, RunClaims}
 use Rattle.b64.proofs.B64Laws.{letter-sextet, sextet-letter, encode-decode, bytes-decode, decode-encode, canonical-encode, length-decode, length-encode}
 use Rattle.b64.proofs.TableRules.{sextets-rule}
-use Rattle.b64.proofs.RunLaws.{decoded-whole, decoded-groups, decoded-begins, decoded-fits}
+use Rattle.b64.proofs.RunLaws.{decoded-whole, decoded-groups, decoded-most, decoded-begins, decoded-fits, decoding-complete}
 
 pub b64-claims : B64Claims
 b64-claims =
@@ -24,8 +27,11 @@ table-claims = record { sextets-rule = sextets-rule }
 pub run-claims : RunClaims
 run-claims =
     record {
-      all-of-whole = decoded-whole;
-      groups-of-part = decoded-groups;
+      run-alphabet = λ s at. run-all inAlphabet (drop at s);
+      all-of-complete = decoded-whole;
+      groups-of-other = decoded-groups;
+      most-of-other = decoded-most;
       begins-decoded = decoded-begins;
       fits-decoded = decoded-fits;
+      decoding-complete = decoding-complete;
     }

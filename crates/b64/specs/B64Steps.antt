@@ -6,11 +6,11 @@ use mathlib.Core.List.{List, [], _∷_}
 use lib.ListN.{getD}
 use Rattle.b64.specs.B64.{sextet, groupOf}
 
--- four numbers of six bits as one of 24
+-- four numbers of six bits as one of 24: the formula of `groupOf`, without its test
 abbrev pub bitsOf : ℕ → ℕ → ℕ → ℕ → ℕ
 bitsOf a b c d = (a * 64 + b) * 4096 + (c * 64 + d)
 
--- the number of the four bytes at a place
+-- the 24 bits of the four characters at a place, or 2^24
 abbrev pub groupAt : List ℕ → ℕ → ℕ
 groupAt s i = groupOf (sextet (getD s i 0)) (sextet (getD s (i + 1) 0)) (sextet (getD s (i + 2) 0)) (sextet (getD s (i + 3) 0))
 

@@ -25,15 +25,16 @@ ghost use Rattle.b64.specs.B64.{sextet, Sextets, canonical, decode, deco
 ghost use Rattle.b64.specs.Runs.{RunGives};
 ghost use Rattle.b64.specs.RunSteps.{Reached, Stopped};
 
-// How far a run was decoded: the place after the characters, and the place after their bytes; `whole` where that is all of them.
+// How far a run was decoded: the place after the characters, and the place after their bytes; and whether the run is a canonical text whose bytes
+// fit, so that this is all of it.
 pub struct Run {
     pub next: usize,
     pub end: usize,
-    pub whole: bool,
+    pub complete: bool,
 }
 
 // Where whole groups end, in the text and in the bytes.
-pub struct Ended {
+struct Ended {
     pub next: usize,
     pub end: usize,
 }
@@ -70,7 +71,7 @@ fn decode_groups(table: &[u8; 256], s: &[u8], at: usize, out: &mut [u8], from: u
     Ended { next: i, end: o }
 }
 
-// The characters after the whole groups: two or three of them, or none.
+// What stands after the whole groups: the last two or three characters of a canonical text, where they fit; anything else is left.
 fn decode_rest(table: &[u8; 256], s: &[u8], i: usize, out: &mut [u8], o: usize) -> Run
     requires { ⌜ (i ≤ length (now s)) × (o ≤ length (now out)) × Stopped (now s) (now out) i o ⌝ }
     requires { ⌜ Sextets (now table) ⌝ }
@@ -79,14 +80,14 @@ fn decode_rest(table: &[u8; 256], s: &[u8], i: usize, out: &mut [u8], o: usize) 
     let stopped = Run {
         next: i,
         end: o,
-        whole: false,
+        complete: false,
     };
     let a = sextet_at(table, s, i);
     if 63 < a {
         return Run {
             next: i,
             end: o,
-            whole: true,
+            complete: true,
         };
     }
     let b = sextet_at(table, s, i + 1);
@@ -104,7 +105,7 @@ fn decode_rest(table: &[u8; 256], s: &[u8], i: usize, out: &mut [u8], o: usize) 
             return Run {
                 next: i + 2,
                 end: o + 1,
-                whole: true,
+                complete: true,
             };
         }
         return stopped;
@@ -121,15 +122,15 @@ fn decode_rest(table: &[u8; 256], s: &[u8], i: usize, out: &mut [u8], o: usize) 
         return Run {
             next: i + 3,
             end: o + 2,
-            whole: true,
+            complete: true,
         };
     }
     stopped
 }
 
-// The characters of the alphabet at a place, decoded as far as it goes into `out` from a place on: all of them, where they are a canonical text
-// and their bytes fit; else whole groups, as many as fit. For a reader that decodes where nobody looks and doesn't know yet where a text ends:
-// it refuses nothing, so what it has decoded stays.
+// The run at a place, decoded as far as it goes into `out` from a place on: all of it, where it is a canonical text and its bytes fit; else whole
+// groups, as many as fit. For a reader that doesn't know yet where a text ends, and decodes where nobody looks: it refuses nothing, so what it has
+// decoded stays. Free answer: a place past the string's end has no run; past the buffer's end nothing fits, not even no bytes.
 pub fn decode_run(s: &[u8], at: usize, out: &mut [u8], from: usize) -> Run
     ensures { λ r. ⌜ RunGives (now (s .entry)) at (now (out .entry)) from (now (out .exit)) r ⌝ }
 {
@@ -137,14 +138,14 @@ pub fn decode_run(s: &[u8], at: usize, out: &mut [u8], from: usize) -> Run
         return Run {
             next: at,
             end: from,
-            whole: false,
+            complete: false,
         };
     }
     if s.len() < at {
         return Run {
             next: at,
             end: from,
-            whole: true,
+            complete: true,
         };
     }
     let table = &SEXTETS;

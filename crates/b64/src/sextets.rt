@@ -16,7 +16,7 @@ pub fn sextet_of(table: &[u8; 256], c: u8) -> u8
     table[c as usize]
 }
 
-fn wide(x: u8) -> u32
+pub fn wide(x: u8) -> u32
     ensures { λ r. ⌜ r ≡ x ⌝ }
 {
     x as u32
@@ -35,7 +35,8 @@ fn in_range(low: u8, high: u8, c: u8) -> bool
     (low <= c) & (c <= high)
 }
 
-// Whether a byte is of the alphabet, without the table and without a branch: a loop over it is compiled to vector instructions.
+// Whether a byte is of the alphabet, without the table and without a branch: a loop over it is compiled to vector instructions. `/` stands right
+// before `0`, so one range takes both.
 fn in_alphabet(c: u8) -> bool
     ensures { λ r. ⌜ r ≡ inAlphabet c ⌝ }
 {

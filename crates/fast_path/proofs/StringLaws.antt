@@ -19,7 +19,7 @@ use Rattle.text.proofs.Runs.{run-length}
 use Rattle.text.proofs.Starts.{starts-first}
 use Rattle.text.proofs.Lists.{length-empty, length-filled}
 use Rattle.b64.specs.B64.{inAlphabet, canonical, decode}
-use Rattle.b64.specs.Runs.{textAt, isWhole}
+use Rattle.b64.specs.Runs.{runAt, isComplete}
 use Rattle.b64.proofs.RunLaws.{Ran, not-whole}
 use Rattle.table.specs.Limits.{Profile, isSize, noProfile, profileOf, editionTwo}
 use Rattle.table.specs.declared.limits.BytesRule.{BytesRule}
@@ -36,7 +36,7 @@ use Rattle.fast_path.proofs.Chains.{bytes-absent}
 
 -- the bytes of the characters at a place
 abbrev bytesAt : List ℕ → ℕ → List ℕ
-bytesAt s at = decode (textAt s at)
+bytesAt s at = decode (runAt s at)
 
 pub small : (r : BytesRule) (n : ℕ) → isSize r n ≡ true → n ≤ most r
 small (Sized low high) n e = from-within (low .0) (high .0) n e .1
@@ -48,13 +48,13 @@ large Forbidden n h = refl
 
 module _ (r : BytesRule) (s : List ℕ) (at : ℕ) (out₀ : List ℕ) (from : ℕ) where
   -- the run is no text of so few bytes
-  pub bytes-no : from + most r ≤ length out₀ → isWhole (length out₀) from (textAt s at) ≡ false → writtenBytes r (drop at s) ≡ none
-  bytes-no room h = go (canonical (textAt s at)) refl
+  pub bytes-no : from + most r ≤ length out₀ → isComplete (length out₀) from (runAt s at) ≡ false → writtenBytes r (drop at s) ≡ none
+  bytes-no room h = go (canonical (runAt s at)) refl
     where
-      go : (b : Bool) → canonical (textAt s at) ≡ b
-          → cond (b && (not (empty (bytesAt s at)) && isSize r (length (bytesAt s at)))) (some (taken (bytesAt s at) 44 (drop (length (textAt s at)) (drop at s)))) none ≡ none
+      go : (b : Bool) → canonical (runAt s at) ≡ b
+          → cond (b && (not (empty (bytesAt s at)) && isSize r (length (bytesAt s at)))) (some (taken (bytesAt s at) 44 (drop (length (runAt s at)) (drop at s)))) none ≡ none
       go true e =
-          let l = not-whole (length out₀) from (textAt s at) h e in
+          let l = not-whole (length out₀) from (runAt s at) h e in
           rw (large r (length (bytesAt s at)) (omega arith), and-false)
       go false e = refl
 

@@ -57,7 +57,7 @@ abbrev pub NumberIs : Option (Taken ℕ) → List ℕ → NumberItem → Type 0
 NumberIs o s NumberItem·No = o ≡ none
 NumberIs o s (NumberItem·Is n next separator) = (o ≡ some (taken n separator (drop next s))) × (next ≤ length s)
 
--- m, t and p by their order: the rule of each, its name without the `=`, and the numbers with one of them found
+-- m, t and p by their order: the rule of each, the letter of its name, and the numbers with one of them found
 abbrev pub ruleAt : Profile → ℕ → NumberRule
 ruleAt r zero = r .m
 ruleAt r (suc zero) = r .t

@@ -4,6 +4,7 @@ ghost use mathlib.Core.Path.{_≡_};
 ghost use mathlib.Core.List.{[], _∷_};
 ghost use lib.ListN.{length, drop};
 ghost use Rattle.text.specs.Text.{startsWith};
+ghost use Rattle.grammar.specs.Bytes.{equals};
 
 // Whether a name stands at a place.
 fn same_at(s: &[u8], at: usize, name: &[u8]) -> bool
@@ -36,10 +37,10 @@ pub fn begins(s: &[u8], at: usize, separator: u8, name: &[u8]) -> bool
     same_at(s, at + 1, name)
 }
 
-// The same for a name of one letter and `=`.
+// The same for a name of one letter and `=`, as the numbers have: three comparisons and no loop.
 pub fn begins_letter(s: &[u8], at: usize, separator: u8, letter: u8) -> bool
     requires { ⌜ at ≤ length (now s) ⌝ }
-    ensures { λ r. ⌜ r ≡ startsWith (separator ∷ letter ∷ 61 ∷ []) (drop at (now (s .entry))) ⌝ }
+    ensures { λ r. ⌜ r ≡ startsWith (separator ∷ letter ∷ equals ∷ []) (drop at (now (s .entry))) ⌝ }
 {
     if s.len() - at < 3 {
         return false;

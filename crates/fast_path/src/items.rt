@@ -16,7 +16,7 @@ ghost use Prim.Native.Nat.{ℕ, _+_, _≤_};
 ghost use mathlib.Core.List.{List, [], _∷_};
 ghost use lib.ListN.{length, drop};
 ghost use Rattle.text.specs.Text.{andThen};
-ghost use Rattle.grammar.specs.Bytes.{dollar};
+ghost use Rattle.grammar.specs.Bytes.{dollar, equals};
 ghost use Rattle.fast_path.specs.Walk.{leadingNumber, writtenNumber, omittedNumber, numberIn, writtenBytes, bytesIn};
 ghost use Rattle.fast_path.specs.WalkSteps.{NumberIs, most, BytesAre};
 
@@ -63,7 +63,7 @@ fn omitted_number(rule: NumberRule, at: usize, separator: u8) -> NumberItem
 // A number after its separator and its name, one letter and `=`; or left out.
 pub fn number_item(rule: NumberRule, letter: u8, s: &[u8], at: usize, separator: u8) -> NumberItem
     requires { ⌜ at ≤ length (now s) ⌝ }
-    ensures { λ r. ⌜ NumberIs (numberIn rule (letter ∷ 61 ∷ []) separator (drop at (now (s .entry)))) (now (s .entry)) r ⌝ }
+    ensures { λ r. ⌜ NumberIs (numberIn rule (letter ∷ equals ∷ []) separator (drop at (now (s .entry)))) (now (s .entry)) r ⌝ }
 {
     if begins_letter(s, at, separator, letter) {
         return written_number(rule, s, at + 3);
@@ -77,7 +77,7 @@ fn written_bytes(rule: BytesRule, s: &[u8], at: usize, out: &mut [u8], from: usi
     ensures { λ r. ⌜ BytesAre (writtenBytes rule (drop at (now (s .entry)))) (most rule) (now (s .entry)) (now (out .entry)) from (now (out .exit)) r ⌝ }
 {
     let run = decode_run(s, at, out, from);
-    if !run.whole {
+    if !run.complete {
         return BytesItem::No;
     }
     let n = run.end - from;
@@ -90,7 +90,7 @@ fn written_bytes(rule: BytesRule, s: &[u8], at: usize, out: &mut [u8], from: usi
     BytesItem::No
 }
 
-// A byte string that is a piece: it has no name, and a `$` before it.
+// A byte string that is a piece, after its `$`, or none: no name is compared.
 pub fn piece_item(rule: BytesRule, s: &[u8], at: usize, out: &mut [u8], from: usize) -> BytesItem
     requires { ⌜ (at ≤ length (now s)) × (from + most rule ≤ length (now out)) ⌝ }
     ensures { λ r. ⌜ BytesAre (bytesIn rule [] dollar (drop at (now (s .entry)))) (most rule) (now (s .entry)) (now (out .entry)) from (now (out .exit)) r ⌝ }

@@ -79,21 +79,23 @@ fn with_number(costs: Costs, index: usize, n: u32) -> Costs
     }
 }
 
-// A loop, so that there is one call of `number_item`: the compiler then puts it in its place.
+// A loop, so that `number_item` is called in one place: the compiler inlines it then, whatever its size.
 pub fn numbers(column: Column, id: u8, version: Version, s: &[u8], at: usize) -> Head
     requires { ⌜ at ≤ length (now s) ⌝ }
     ensures { λ r. ⌜ HeadIs (numbersIn (profileIn column) id version (drop at (now (s .entry)))) (now (s .entry)) r ⌝ }
 {
-    let mut costs = Costs {
-        m: 0,
-        t: 0,
-        p: 0,
-    };
+    let mut costs = Costs { m: 0, t: 0, p: 0 };
     let mut place = at;
     let mut separator = b'$';
     let mut index = 0;
     while index < 3 {
-        match number_item(rule_at(column, index), letter_at(index), s, place, separator) {
+        match number_item(
+            rule_at(column, index),
+            letter_at(index),
+            s,
+            place,
+            separator,
+        ) {
             NumberItem::No => {
                 return Head::No;
             }

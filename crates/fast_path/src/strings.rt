@@ -44,7 +44,7 @@ fn two_items(
     }
 }
 
-// Two byte strings among the parameters. Where there is none, no separator stands there: one test instead of two names.
+// Two byte strings among the parameters. Where the separator doesn't stand there is neither: one test instead of two names.
 pub fn two_keys(
     a: BytesRule,
     a_name: &[u8],

@@ -15,7 +15,7 @@ use Rattle.text.specs.Place.{over}
 use Rattle.text.proofs.Groups.{Partly, partly-room, partly-step}
 use Rattle.b64.specs.B64.{sextet, inAlphabet, last, lowBitsModulus, lowBitsZero, canonical, decode}
 use Rattle.b64.proofs.B64Code.{canonical-in}
-use Rattle.peers.specs.Plain.{completedByte, completedBytes}
+use Rattle.peers.specs.PlainSteps.{completedByte, completedBytes}
 
 -- ---- how a text may end
 

@@ -15,7 +15,7 @@ ghost use lib.Dec.{eqb};
 ghost use lib.ListN.{length, drop};
 ghost use Rattle.text.specs.Place.{outcome, over};
 ghost use Rattle.b64.specs.B64.{sextet, Sextets, lowBitsModulus, canonical, decode, decoding};
-ghost use Rattle.peers.specs.Plain.{completedByte, completedBytes};
+ghost use Rattle.peers.specs.PlainSteps.{completedByte, completedBytes};
 
 fn sextet_of(table: &[u8; 256], c: u8) -> u8
     requires { ⌜ Sextets (now table) ⌝ }

@@ -12,7 +12,7 @@ returns c =
     let d = c .before .before .before .before in
     let st = d .before .before .before .before in
     let a = st .args in
-    bytes-no (a .rule) (a .s .now) (a .at) (a .out .now) (a .from) (st .pre .1) (sym (d .decode-run .ensures .whole-is) ∙ is-false (d .decode-run .result .whole) (c .if1 .taken))
+    bytes-no (a .rule) (a .s .now) (a .at) (a .out .now) (a .from) (st .pre .1) (sym (d .decode-run .ensures .complete-is) ∙ is-false (d .decode-run .result .complete) (c .if1 .taken))
 
 -- the run is whole
 whole : (c : tie.Else1)
@@ -22,7 +22,7 @@ whole : (c : tie.Else1)
 whole c =
     let d = c .before .before .before .before in
     let a = d .before .before .before .before .args in
-    ran (a .s .now) (a .at) (a .out .now) (a .from) _ (d .decode-run .result) (d .decode-run .ensures) (is-true (d .decode-run .result .whole) (c .if1 .left))
+    ran (a .s .now) (a .at) (a .out .now) (a .from) _ (d .decode-run .result) (d .decode-run .ensures) (is-true (d .decode-run .result .complete) (c .if1 .left))
 
 returns-2 : tie.Need-returns-2
 returns-2 c =

@@ -86,8 +86,8 @@ returns-3 c =
     let p = e .before in
     let a = p .before .before .args in (
       sym (p .loop .inv .2)
-      ∙ all-numbers (profileIn (a .column)) (a .id) (a .version) (p .loop .costs) (p .loop .separator) (drop (p .loop .place) (a .s .now)) (p .loop .index)
-      (omega (arith, e .loop-test .left, p .loop .inv .1)) (sym (c .before .memory-too-little .ensures) ∙ c .if1 .left),
+          ∙ all-numbers (profileIn (a .column)) (a .id) (a .version) (p .loop .costs) (p .loop .separator) (drop (p .loop .place) (a .s .now)) (p .loop .index)
+          (omega (arith, e .loop-test .left, p .loop .inv .1)) (sym (c .before .memory-too-little .ensures) ∙ c .if1 .left),
       p .loop .inv .0,
     )
 
