@@ -1,4 +1,6 @@
 // B64: RFC 4648 section 4 without padding or whitespace.
+#![tactic(auto)]
+
 pub mod alphabet;
 pub mod canonical;
 pub mod decoder;

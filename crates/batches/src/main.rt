@@ -1,6 +1,8 @@
 // Known answers of batches of account lines. A line of standard input is a row: the text in hex, the place to begin at, the limit, and how many
 // answers the lent slice holds. Standard output has each row with the number, the place to go on from, the count of lines judged and their
 // numbers; and how many places of the slice keep what they held. The stored output was worked out from documents 01 and 02 apart from this code.
+#![tactic(auto)]
+
 use accounts::batch::{Batch, judge_batch};
 use rows::buffer::front;
 use rows::columns::{column, decimal};

@@ -1,6 +1,8 @@
 // Known answers of the listing, cut at many places: the input is fed in parts of 0 to 600 bytes, so that cuts fall inside names and strings
 // and beside tabs and line feeds, and rows wait in a buffer that holds only a few. The stored output was worked out from document 01 apart
 // from this code.
+#![tactic(auto)]
+
 use accounts::limits::MOST_KEPT;
 use accounts::row::write_header;
 use grammar::places::{Span, part};

@@ -3,6 +3,8 @@
 // the empty text; no accepted text holds a tab. Standard output has each row with what the entries give for it, under one header for texts
 // and one for fields. A text's last column is the number for its output where the room is one byte too little. The stored output was worked
 // out from documents 01 and 02 apart from this code.
+#![tactic(auto)]
+
 use directory::reader::{byte_string, read};
 use directory::writer::write;
 use profile::fields::ByteString;

@@ -1,5 +1,7 @@
 // PHC strings of any function name: the reader of a string's pieces, and parts of a string.
 // The definitions that the contracts cite stand in specs/; document 01's rules are in specs/Rules.antt.
+#![tactic(auto)]
+
 pub mod bytes;
 mod classes;
 pub mod item_places;

@@ -1,5 +1,7 @@
 // The listing program: account text on standard input, the listing on standard output, and on standard error what could not be read or written.
 // It holds one part of the input, the unfinished line and the rows that wait to be written, whatever the input's length.
+#![tactic(auto)]
+
 use accounts::limits::MOST_KEPT;
 use accounts::row::write_header;
 use libc::{STDERR_FILENO, STDIN_FILENO};

@@ -1,5 +1,7 @@
 // The entries of the profile, the directory and the account text for programs in other languages: numbers and byte slices, under C names
 // (include/phc.h).
+#![tactic(auto)]
+
 pub mod batch;
 pub mod braced;
 mod code;

@@ -1,4 +1,6 @@
 // The five profiles over the grammar's promises: argon2d, argon2i, argon2id, pbkdf2s2, pbkdf2s3.
+#![tactic(auto)]
+
 mod bytes_field;
 pub mod fields;
 mod judge;

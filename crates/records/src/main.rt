@@ -1,6 +1,8 @@
 // Known answers of the profile reader: a string on each line of standard input, and on standard output all that the entries give for it,
 // parted by tabs; last the string that the writer gives for what was read. The stored output was worked out from document 01 apart from this
 // code.
+#![tactic(auto)]
+
 use profile::fields::{ByteString, NumberFields};
 use profile::reader::{algorithm_version, byte_string, read};
 use profile::writer::write;

@@ -1,5 +1,7 @@
 // What the programs of known answers share: rows from standard input, the columns of a row, and answers on standard output. The contracts
 // determine what a row's columns hold; of standard input and output none can speak.
+#![tactic(auto)]
+
 pub mod buffer;
 pub mod columns;
 pub mod hex;

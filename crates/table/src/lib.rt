@@ -1,4 +1,6 @@
 // Document 01's table of the five profiles: a column for each id, and whether a number, a byte string or a version is what its column allows.
+#![tactic(auto)]
+
 pub mod bounds;
 pub mod columns;
 pub mod ids;

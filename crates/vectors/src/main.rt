@@ -2,6 +2,8 @@
 // side of their rule, and strings of the grammar. A row is written back with what the entry gives for it. Buffers are filled with dots and
 // lent from a place in their middle, so that the bytes around what is written show. The stored output comes from the documents.
 // Columns: encode, decode or number, text, place; range, text, low, high; string or places, text.
+#![tactic(auto)]
+
 use decimal::reader::{Limited, read_decimal, read_within};
 use grammar::parts::{item_name, item_value, piece};
 use grammar::places::{Piece, Span};

@@ -1,6 +1,8 @@
 // Known answers of the writer: the fields of a string on each line of standard input, parted by tabs, and on standard output the same with
 // the number and the string that the writer gives for them. The stored output was worked out from document 01 apart from this code.
 // Columns: id, version (`absent`, a decimal, or `short` for the short writer), m, t, p, then keyid, data, salt and output in hex.
+#![tactic(auto)]
+
 use profile::writer::{write, write_short};
 use rows::buffer::{PLACE, front};
 use rows::columns::{column, id, number_fields};
