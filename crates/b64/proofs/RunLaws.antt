@@ -1,12 +1,12 @@
 -- The B64 characters at a place, decoded: one group more, the end of a run, and all of a canonical text.
 -- Assumes nothing.
-use Prim.Native.Nat.{ℕ, suc, ◌+◌, ◌-◌, ◌*◌, ◌/◌, ◌%◌, ◌≤◌, ◌<◌, min}
+use Prim.Native.Nat.{ℕ, ◌+◌, ◌-◌, ◌*◌, ◌/◌, ◌%◌, ◌≤◌, ◌<◌, min}
 use mathlib.Core.Path.{◌≡◌, refl, sym, ap, ◌∙◌}
 use mathlib.Core.Bool.{Bool, true, false, cond, ◌&&◌, and-false}
 use mathlib.Core.List.{List, [], ◌∷◌, ◌++◌, append_assoc, append-nil}
 use native.Mathlib.Omega.{arith}
 use native.Mathlib.Decide.{dec_lt}
-use lib.Dec.{eqb, leb}
+use lib.Dec.{eqb}
 use lib.ListN.{length, take, drop, get_or, length-append, length-drop, take-append-drop, get_or-eq_default}
 use lib.Seq.{take_at, length-take-le}
 use borrow.Author.Tests.{lt-ltb, le-ltb, le-leb, lt-leb, leb-true, leb-false, eq-eqb, ne_eqb}
@@ -21,7 +21,7 @@ use Rattle.b64.specs.B64Steps.{bits_of, group_at, three, two, one}
 use Rattle.b64.specs.Runs.{run_at, is_complete, decoded_of, RunGives}
 use Rattle.b64.specs.RunSteps.{Reached, Stopped}
 use Rattle.b64.specs.declared.decoder.Run.{Run}
-use Rattle.b64.proofs.B64Laws.{grouped, pair, triple, canonical-grouped, canonical_alphabet, length_decode}
+use Rattle.b64.proofs.B64Laws.{grouped, canonical-grouped, canonical_alphabet, length_decode}
 use Rattle.b64.proofs.B64Code.{sextet_at, group_past, group_bits}
 
 -- ---- sextets

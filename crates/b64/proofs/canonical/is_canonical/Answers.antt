@@ -1,5 +1,4 @@
 -- `b64::canonical::is_canonical` meets its contract. Assumes nothing.
-use borrow.Author.Rules.{rules}
 use Rattle.b64.proofs.TableRules.{sextets_rule}
 use Rattle.b64.proofs.canonical.is_canonical.Goals as goal
 

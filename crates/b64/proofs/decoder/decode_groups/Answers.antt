@@ -1,21 +1,19 @@
 -- `b64::decoder::decode_groups` meets its contract. Assumes nothing.
-use Prim.Native.Nat.{◌+◌, ◌-◌, ◌≤◌}
+use Prim.Native.Nat.{◌+◌, ◌≤◌}
 use native.Mathlib.Omega.{arith}
 use lib.ListN.{length}
-use borrow.Author.Rules.{rules}
-use Rattle.b64.specs.RunSteps.{Reached}
-use Rattle.b64.proofs.RunLaws.{reached_start, reached_more, bound_inside, stopped_bound, stopped_other}
+use Rattle.b64.proofs.RunLaws.{reached_start, reached_more, bound_inside, stopped_bound}
 use Rattle.b64.proofs.decoder.decode_groups.Goals as goal
 
 pub loop-i-init : goal.loop-i-init
 loop-i-init c = let a = c.args in
-    reached_start a.s.now a.at a.out.now a.from c.requires.0.0 c.requires.0.1
+    reached_start a.s.now a.at a.out.now a.from c.requires.at_in_bounds.0 c.requires.at_in_bounds.1
 
 pub loop-i-preserved : goal.loop-i-preserved
 loop-i-preserved c =
-    let inside : (c.loop-i.i + 4 ≤ length c.args.s.now) × (c.loop-i.o + 3 ≤ length c.loop-i.out) =     let l = c.loop-i in
-        let a = c.args in
-    bound_inside a.s.now a.at a.out.now a.from l.out l.i l.o l.invariant c.requires.0.0 c.requires.0.1
+    let inside : (c.loop-i.i + 4 ≤ length c.args.s.now) × (c.loop-i.o + 3 ≤ length c.loop-i.out) = let l = c.loop-i in
+    let a = c.args in
+    bound_inside a.s.now a.at a.out.now a.from l.out l.i l.o l.invariant c.requires.at_in_bounds.0 c.requires.at_in_bounds.1
     (omega (arith, c.loop-i-test.true, c.min.ensures)) in
     let l = c.loop-i in
     let a = c.args in
@@ -24,9 +22,8 @@ loop-i-preserved c =
 
 pub returns : goal.returns
 returns c = let l = c.loop-i in
-    let a = c.args in
-    (
+    let a = c.args in (
       l.invariant,
-      stopped_bound a.s.now a.at a.out.now a.from l.out l.i l.o l.invariant c.requires.0.0 c.requires.0.1
+      stopped_bound a.s.now a.at a.out.now a.from l.out l.i l.o l.invariant c.requires.at_in_bounds.0 c.requires.at_in_bounds.1
           (omega (arith, c.loop-i-test.false, c.min.ensures)),
     )

@@ -1,10 +1,7 @@
 -- `b64::decoder::decode_pairs` meets its contract. Assumes nothing.
-use Prim.Native.Nat.{◌+◌, ◌-◌, ◌≤◌}
-use native.Mathlib.Omega.{arith}
+use Prim.Native.Nat.{◌-◌}
 use lib.ListN.{length}
-use borrow.Author.Rules.{rules}
 use Rattle.b64.specs.RunSteps.{Reached}
-use Rattle.b64.proofs.RunLaws.{reached_start, group_in, group_room, group_reached, pair_reached}
 use Rattle.b64.proofs.decoder.decode_pairs.Given as goal
 
 abbrev pub invariant-loop-i : goal.invariant-loop-i

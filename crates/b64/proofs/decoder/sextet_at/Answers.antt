@@ -1,5 +1,4 @@
 -- `b64::decoder::sextet_at` meets its contract. Assumes nothing.
-use borrow.Author.Rules.{rules}
 use Rattle.b64.proofs.RunLaws.{sextet-past}
 use Rattle.b64.proofs.decoder.sextet_at.Goals as goal
 

@@ -1,24 +1,39 @@
 -- `b64::encoder::encode` meets its contract.
 use native.Mathlib.Omega.{arith}
-use borrow.Author.Rules.{rules}
-use Rattle.text.proofs.Writers.{Asked, writer_fits, writer_full, writer_room, writer_done}
+use Rattle.text.proofs.Writers.{Asked, writer_full, writer_room, writer_done}
 use Rattle.b64.specs.B64.{encode}
 use Rattle.b64.proofs.B64Laws.{length_encode}
 use Rattle.b64.proofs.TableRules.{letters_rule}
 use Rattle.b64.proofs.encoder.encode.Goals as goal
 
+pub encode_all-requires-clause-bytes_in_bounds : goal.encode_all-requires-clause-bytes_in_bounds
+encode_all-requires-clause-bytes_in_bounds c =
+    let asked : let a = c.args in Asked a.buf.now a.at (encode a.bytes.now) c.encoded_len-count.result.0 c.has_room.result = record {
+      counted = omega (arith, length_encode c.args.bytes.now, c.encoded_len-count.ensures, c.well_formed.0.1);
+      answered = c.has_room.ensures;
+    } in
+    writer_room asked c.if-has_room.true
+
+pub encode_all-requires-clause-letters : goal.encode_all-requires-clause-letters
+encode_all-requires-clause-letters c =
+    let asked : let a = c.args in Asked a.buf.now a.at (encode a.bytes.now) c.encoded_len-count.result.0 c.has_room.result = record {
+      counted = omega (arith, length_encode c.args.bytes.now, c.encoded_len-count.ensures, c.well_formed.0.1);
+      answered = c.has_room.ensures;
+    } in
+    letters_rule
+
 pub returns-then-has_room : goal.returns-then-has_room
 returns-then-has_room c =
-    let asked : let a = c.args in Asked a.buf.now a.at (encode a.bytes.now) c.encoded_len-count.result.0 c.has_room.result =     record {
-      counted = omega (arith, length_encode c.args.bytes.now, c.encoded_len-count.ensures, c.well-formed.0.1);
+    let asked : let a = c.args in Asked a.buf.now a.at (encode a.bytes.now) c.encoded_len-count.result.0 c.has_room.result = record {
+      counted = omega (arith, length_encode c.args.bytes.now, c.encoded_len-count.ensures, c.well_formed.0.1);
       answered = c.has_room.ensures;
     } in
     writer_done asked c.if-has_room.true _ c.encode_all.ensures
 
 pub returns : goal.returns
 returns c =
-    let asked : let a = c.args in Asked a.buf.now a.at (encode a.bytes.now) c.encoded_len-count.result.0 c.has_room.result =     record {
-      counted = omega (arith, length_encode c.args.bytes.now, c.encoded_len-count.ensures, c.well-formed.0.1);
+    let asked : let a = c.args in Asked a.buf.now a.at (encode a.bytes.now) c.encoded_len-count.result.0 c.has_room.result = record {
+      counted = omega (arith, length_encode c.args.bytes.now, c.encoded_len-count.ensures, c.well_formed.0.1);
       answered = c.has_room.ensures;
     } in
     writer_full asked c.if-has_room.false

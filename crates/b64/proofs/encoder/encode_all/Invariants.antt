@@ -1,13 +1,8 @@
 -- `b64::encoder::encode_all` meets its contract.
-use native.Mathlib.Omega.{arith}
 use Prim.Native.Nat.{◌-◌, ◌≤◌}
-use mathlib.Core.Path.{◌∙◌, ap}
-use lib.ListN.{length, drop, length-drop}
-use Rattle.text.proofs.Writing.{tail_part}
-use Rattle.text.proofs.Groups.{Partly, partly_start, lent_room, lent_turn, lent_last}
+use lib.ListN.{length, drop}
+use Rattle.text.proofs.Groups.{Partly}
 use Rattle.b64.specs.B64.{encode}
-use Rattle.b64.proofs.B64Laws.{length_encode}
-use Rattle.b64.proofs.B64Code.{encode_group}
 use Rattle.b64.proofs.encoder.encode_all.Given as goal
 
 abbrev pub invariant-loop-i : goal.invariant-loop-i

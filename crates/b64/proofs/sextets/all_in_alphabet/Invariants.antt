@@ -1,12 +1,9 @@
 -- `b64::sextets::all_in_alphabet` meets its contract: what was seen so far, and the rest. Assumes nothing.
-use borrow.Author.Rules.{rules}
-use native.Mathlib.Omega.{arith}
 use Prim.Native.Nat.{◌-◌}
-use mathlib.Core.Path.{◌≡◌, refl, sym, ◌∙◌}
+use mathlib.Core.Path.{◌≡◌}
 use mathlib.Core.Bool.{◌&&◌}
 use lib.ListN.{length, drop}
 use Rattle.text.specs.Text.{all}
-use Rattle.text.proofs.Scanning.{all-and, and-past}
 use Rattle.b64.specs.B64.{in_alphabet}
 use Rattle.b64.proofs.sextets.all_in_alphabet.Given as goal
 

@@ -3,8 +3,7 @@ use native.Mathlib.Omega.{arith}
 use Prim.Native.Nat.{ℕ, ◌%◌}
 use mathlib.Core.Path.{◌∙◌, ap}
 use lib.Dec.{eqb}
-use borrow.Author.Rules.{rules}
-use Rattle.b64.proofs.B64Code.{ends_0, ends_1, ends_2, ends_3}
+use Rattle.b64.proofs.B64Code.{ends_0, ends_2, ends_3}
 use Rattle.b64.proofs.sextets.has_canonical_end.Goals as goal
 
 pub returns-then-rest-eq0 : goal.returns-then-rest-eq0

@@ -1,6 +1,5 @@
 -- `b64::sextets::is_canonical_by` meets its contract.
 use mathlib.Core.Path.{sym, ◌∙◌}
-use borrow.Author.Rules.{rules}
 use Rattle.b64.proofs.B64Code.{canonical_in, canonical_out}
 use Rattle.b64.proofs.sextets.is_canonical_by.Goals as goal
 

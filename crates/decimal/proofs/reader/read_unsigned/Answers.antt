@@ -7,8 +7,8 @@ use Rattle.decimal.proofs.reader.read_unsigned.Goals as goal
 
 pub returns-then-not-is_unsigned : goal.returns-then-not-is_unsigned
 unfolding unsigned_reading
-returns-then-not-is_unsigned c = rw (sym c.is_unsigned.ensures ∙ not-true _ c.if-not-is_unsigned.true)
+returns-then-not-is_unsigned c = rw (sym c.is_unsigned.ensures ∙ c.if-not-is_unsigned.true)
 
 pub returns : goal.returns
 unfolding unsigned_reading
-returns c = rw (sym c.is_unsigned.ensures ∙ not-false _ c.if-not-is_unsigned.false) c.value_up_to.ensures
+returns c = rw (sym c.is_unsigned.ensures ∙ c.if-not-is_unsigned.false) c.value_up_to.ensures
