@@ -1,11 +1,8 @@
 -- `decimal::digits::all_digits` meets its contract. Assumes nothing.
 use Prim.Native.Nat.{◌-◌}
-use mathlib.Core.Path.{◌≡◌, sym, ◌∙◌}
-use borrow.Author.Rules.{rules}
-use borrow.Author.Tests.{not-true, not-false}
+use mathlib.Core.Path.{◌≡◌}
 use lib.ListN.{length, drop}
 use Rattle.text.specs.Text.{all}
-use Rattle.text.proofs.Scanning.{all_past, all-false, all_step}
 use Rattle.decimal.specs.Decimal.{is_digit}
 use Rattle.decimal.proofs.digits.all_digits.Given as goal
 

@@ -1,6 +1,5 @@
 -- `decimal::reader::is_unsigned` meets its contract: three ways out, by the first byte. Assumes nothing.
 use mathlib.Core.Path.{◌∙◌}
-use borrow.Author.Rules.{rules}
 use Rattle.decimal.proofs.DigitSteps.{unsigned_none, unsigned_zero, unsigned_other}
 use Rattle.decimal.proofs.reader.is_unsigned.Goals as goal
 

@@ -1,10 +1,9 @@
 -- `decimal::reader::read_minus` meets its contract: one way out for each case of the unsigned reader, and one for 0. Assumes nothing.
-use mathlib.Core.Path.{◌≡◌, sym, ap, ◌∙◌}
+use mathlib.Core.Path.{◌≡◌, sym, ◌∙◌}
 use borrow.Author.Rules.{rules}
-use Rattle.decimal.specs.DecimalSteps.{unsigned_reading, minus}
+use Rattle.decimal.specs.DecimalSteps.{unsigned_reading}
 use Rattle.decimal.specs.declared.reader.Limited.{Limited}
-use Rattle.decimal.specs.declared.signs.Signed.TheVariants.{Number}
-use Rattle.decimal.proofs.SignSteps.{read_back, read_most, minus-zero, minus_other}
+use Rattle.decimal.proofs.SignSteps.{read_most}
 use Rattle.decimal.proofs.reader.read_minus.Goals as goal
 
 pub negated-requires : goal.negated-requires

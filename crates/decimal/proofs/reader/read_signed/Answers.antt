@@ -1,6 +1,5 @@
 -- `decimal::reader::read_signed` meets its contract: three ways out, by the first byte. Assumes nothing.
 use mathlib.Core.Path.{sym, ap, ◌∙◌}
-use borrow.Author.Rules.{rules}
 use lib.ListN.{drop}
 use Rattle.text.proofs.Writing.{tail_part}
 use Rattle.decimal.specs.Numerals.{least, greatest, signed}

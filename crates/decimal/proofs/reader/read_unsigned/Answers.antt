@@ -1,7 +1,5 @@
 -- `decimal::reader::read_unsigned` meets its contract, by the two callees'. Assumes nothing.
 use mathlib.Core.Path.{sym, ◌∙◌}
-use borrow.Author.Tests.{not-true, not-false}
-use borrow.Author.Rules.{rules}
 use Rattle.decimal.specs.DecimalSteps.{unsigned_reading}
 use Rattle.decimal.proofs.reader.read_unsigned.Goals as goal
 

@@ -1,11 +1,8 @@
 -- `decimal::reader::value_up_to` meets its contract. The invariant: the number read so far is within the limit, and what is left makes of it the
 use Prim.Native.Nat.{◌≤◌, ◌-◌}
-use mathlib.Core.Path.{◌≡◌, refl, sym, ◌∙◌}
-use native.Mathlib.Omega.{arith}
-use borrow.Author.Rules.{rules}
+use mathlib.Core.Path.{◌≡◌}
 use lib.ListN.{length, drop}
 use Rattle.decimal.specs.Decimal.{value, value_from}
-use Rattle.decimal.proofs.DigitSteps.{value-next, value-past, is_outside, is_value_lem}
 use Rattle.decimal.proofs.reader.value_up_to.Given as goal
 
 abbrev pub invariant-loop-i : goal.invariant-loop-i

@@ -1,9 +1,5 @@
 -- `decimal::writer::count_digits` meets its contract. The invariant: the digits counted and those of what is left are one more than the number has.
-use Prim.Native.Nat.{◌+◌}
-use mathlib.Core.Path.{◌≡◌, refl}
 use native.Mathlib.Omega.{arith}
-use lib.ListN.{length}
-use Rattle.decimal.specs.Decimal.{digits}
 use Rattle.decimal.proofs.DecimalLaws.{length_digits, length_small, length_step, length_pos}
 use Rattle.decimal.proofs.writer.count_digits.Goals as goal
 

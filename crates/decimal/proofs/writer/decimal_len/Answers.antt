@@ -1,6 +1,5 @@
 -- `decimal::writer::decimal_len` meets its contract, by the sign. Assumes nothing.
 use native.Mathlib.Omega.{arith}
-use borrow.Author.Rules.{rules}
 use Rattle.decimal.proofs.DecimalLaws.{length_digits}
 use Rattle.decimal.proofs.SignSteps.{text_below, text_other}
 use Rattle.decimal.proofs.writer.decimal_len.Goals as goal

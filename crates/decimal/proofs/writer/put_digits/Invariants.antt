@@ -1,13 +1,9 @@
 -- `decimal::writer::put_digits` meets its contract. The invariant: the digits of what is left, before what stands from there on, are the whole text
-use Prim.Native.Nat.{◌+◌, ◌-◌, ◌/◌, ◌<◌}
-use mathlib.Core.Path.{◌≡◌, refl, ◌∙◌}
+use Prim.Native.Nat.{◌+◌, ◌<◌}
+use mathlib.Core.Path.{◌≡◌}
 use mathlib.Core.List.{◌++◌}
-use native.Mathlib.Omega.{arith}
-use borrow.Author.Rules.{rules}
-use lib.ListN.{length, drop, length-set}
+use lib.ListN.{length, drop}
 use Rattle.decimal.specs.Decimal.{digits}
-use Rattle.decimal.proofs.DecimalLaws.{length_step, length_pos}
-use Rattle.decimal.proofs.DigitSteps.{put_digit, put_first}
 use Rattle.decimal.proofs.writer.put_digits.Given as goal
 
 abbrev pub invariant-loop-rest : goal.invariant-loop-rest

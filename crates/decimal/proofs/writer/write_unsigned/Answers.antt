@@ -1,8 +1,5 @@
 -- `decimal::writer::write_unsigned` meets its contract, by the room: the digits go into the part from the place on. Assumes nothing.
-use native.Mathlib.Omega.{arith}
-use borrow.Author.Rules.{rules}
-use borrow.Author.Tests.{not-true, not-false}
-use Rattle.text.proofs.Writers.{Asked, writer_fits, writer_full, writer_room, writer_done}
+use Rattle.text.proofs.Writers.{Asked, writer_full, writer_done}
 use Rattle.decimal.specs.Decimal.{digits}
 use Rattle.decimal.proofs.writer.write_unsigned.Goals as goal
 
