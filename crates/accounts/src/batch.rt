@@ -9,7 +9,7 @@ use text::order::min;
 use text::scan::next_at;
 
 // 0, the place to go on from and the count of lines judged; or 17 and zeros.
-#[derive(Drop)]
+#[derive(Clone, Copy)]
 pub struct Batch {
     pub number: u8,
     pub place: usize,

@@ -10,7 +10,7 @@ use grammar::names::is_name;
 use text::scan::next_at;
 
 // The number of a line, and the kind of its string: 1 parameters, 2 salt, 3 hash; 0 where the line is refused.
-#[derive(Drop)]
+#[derive(Clone, Copy)]
 pub struct Answer {
     pub number: u8,
     pub kind: u8,

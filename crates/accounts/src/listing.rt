@@ -16,7 +16,7 @@ use text::scan::next_at;
 use text::units::Chars;
 
 // What a call gives.
-#[derive(Drop)]
+#[derive(Clone, Copy)]
 pub enum Listed {
     // A row was written: the place after its line in the part, the row's length, and the number of the next line. Go on with no byte kept.
     Row {

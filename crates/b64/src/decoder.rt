@@ -17,7 +17,7 @@ use text::units::{Bytes, Chars};
 
 // How far a run was decoded: the place after the characters, and the place after their bytes; and whether the run is a canonical text whose bytes
 // fit, so that this is all of it.
-#[derive(Drop)]
+#[derive(Clone, Copy)]
 pub struct Run {
     pub next: usize,
     pub end: usize,
@@ -25,7 +25,7 @@ pub struct Run {
 }
 
 // Where whole groups end, in the text and in the bytes.
-#[derive(Drop)]
+#[derive(Clone, Copy)]
 struct Ended {
     pub next: usize,
     pub end: usize,

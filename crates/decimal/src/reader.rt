@@ -9,7 +9,7 @@ use crate::numbers::NOT_DECIMAL;
 use crate::signs::{Signed, complement};
 
 // A text read as a decimal over a range: no decimal, one outside the range, or its value.
-#[derive(Drop)]
+#[derive(Clone, Copy)]
 pub enum Limited {
     Malformed,
     Outside,
@@ -17,7 +17,7 @@ pub enum Limited {
 }
 
 // What the public reader gives: 0 and the number, or 11 and 0.
-#[derive(Drop)]
+#[derive(Clone, Copy)]
 pub struct Decimal {
     pub number: u8,
     pub value: i64,

@@ -3,7 +3,7 @@ ghost use Rattle.std.specs.Prelude.{◌≡◌};
 ghost use Rattle.decimal.specs.DecimalSteps.{complement_of};
 
 // A text read as a signed decimal: no decimal, one outside i64, or its number.
-#[derive(Drop)]
+#[derive(Clone, Copy)]
 pub enum Signed {
     Malformed,
     Outside,

@@ -6,7 +6,7 @@ use profile::fields::Reading;
 use text::units::Bytes;
 
 // What a string gives: the reader's answer, and how many bytes each of the four byte strings has; or the refusal's number and zeros.
-#[derive(Drop)]
+#[derive(Clone, Copy)]
 pub struct Contents {
     pub reading: Reading,
     pub keyid: Bytes,

@@ -14,14 +14,14 @@ use table::omitted::{default_of, is_omitted, is_required};
 use text::units::Bytes;
 
 // The number, the place after its item, and the separator before the next.
-#[derive(Drop)]
+#[derive(Clone, Copy)]
 pub enum NumberItem {
     No,
     Is(u32, usize, u8),
 }
 
 // The place after the item, the place after its bytes, and the separator before the next item.
-#[derive(Drop)]
+#[derive(Clone, Copy)]
 pub enum BytesItem {
     No,
     To(usize, usize, u8),

@@ -3,7 +3,7 @@ ghost use Rattle.std.specs.Prelude.{◌≡◌, ◌<◌, length};
 ghost use Rattle.fast_path.specs.WalkSteps.{LeadingNumberIs, Counted};
 
 // The number, and the place after its digits; no decimal of 32 bits stands there otherwise.
-#[derive(Drop)]
+#[derive(Clone, Copy)]
 pub enum LeadingNumber {
     No,
     Is(u32, usize),

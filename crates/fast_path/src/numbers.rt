@@ -11,7 +11,7 @@ use table::limits::{Column, NumberRule};
 use table::version::Version;
 
 // The numbers found so far.
-#[derive(Drop)]
+#[derive(Clone, Copy)]
 pub struct Costs {
     pub m: u32,
     pub t: u32,
@@ -19,7 +19,7 @@ pub struct Costs {
 }
 
 // The number fields, the place after them, and the separator before the next item.
-#[derive(Drop)]
+#[derive(Clone, Copy)]
 pub enum Head {
     No,
     Is(NumberFields, usize, u8),

@@ -9,7 +9,7 @@ use crate::items::{BytesItem, bytes_item, piece_item};
 use table::limits::BytesRule;
 
 // The place after two byte strings, and the places after the bytes of the first and of the second.
-#[derive(Drop)]
+#[derive(Clone, Copy)]
 pub enum Two {
     No,
     To(usize, usize, usize),

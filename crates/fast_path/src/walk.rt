@@ -23,14 +23,14 @@ use text::units::Bytes;
 pub const BUFFER_LEN: usize = 152;
 
 // The version, and the place after it.
-#[derive(Drop)]
+#[derive(Clone, Copy)]
 pub enum VersionItem {
     No,
     Is(Version, usize),
 }
 
 // What the walk found; nothing where the string is no good one.
-#[derive(Drop)]
+#[derive(Clone, Copy)]
 pub enum Walk {
     Nothing,
     Found(Contents),

@@ -6,7 +6,7 @@ ghost use Rattle.grammar.specs.Bytes.{in_class, is_text};
 use crate::bytes::{is_name_byte, is_value_byte};
 
 // The bytes of names, and of values and salts.
-#[derive(Drop)]
+#[derive(Clone, Copy)]
 pub enum Class {
     Name,
     Value,

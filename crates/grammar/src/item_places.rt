@@ -7,7 +7,7 @@ use text::scan::next_at;
 use text::units::Chars;
 
 // Where an item stands: its name, its value (0 and 0 where it has no `=`), and where the next item would begin.
-#[derive(Drop)]
+#[derive(Clone, Copy)]
 pub struct ItemPlace {
     pub name: Span,
     pub value: Span,

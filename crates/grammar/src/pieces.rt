@@ -9,7 +9,7 @@ use crate::sorting::sort;
 use text::units::Chars;
 
 // What the reader gives; on refusal every place, length and count is 0.
-#[derive(Drop)]
+#[derive(Clone, Copy)]
 pub struct Layout {
     pub number: u8,
     pub places: Places,

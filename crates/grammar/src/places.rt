@@ -7,7 +7,7 @@ use text::place::has_room;
 use text::units::Chars;
 
 // 01's pieces: the bytes after a `$`; the version includes its `v=`, the parameters their commas.
-#[derive(Drop)]
+#[derive(Clone, Copy)]
 pub enum Piece {
     Id,
     Version,
@@ -17,14 +17,14 @@ pub enum Piece {
 }
 
 // Where a piece stands: its place and its length; 0 and 0 for an absent one.
-#[derive(Drop)]
+#[derive(Clone, Copy)]
 pub struct Span {
     pub at: usize,
     pub len: Chars,
 }
 
 // Where the five pieces stand.
-#[derive(Drop)]
+#[derive(Clone, Copy)]
 pub struct Places {
     pub id: Span,
     pub version: Span,

@@ -9,14 +9,14 @@ use text::scan::next_at;
 use text::units::Chars;
 
 // `more`: pieces remain after the output.
-#[derive(Drop)]
+#[derive(Clone, Copy)]
 pub struct Sorted {
     pub places: Places,
     pub more: bool,
 }
 
 // The piece asked for, if it stands at the place, and where the next piece would begin.
-#[derive(Drop)]
+#[derive(Clone, Copy)]
 pub struct Step {
     pub span: Span,
     pub next: usize,

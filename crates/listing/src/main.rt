@@ -8,14 +8,14 @@ use libc::{STDERR_FILENO, STDIN_FILENO};
 use stream::rows::{State, finish, flush_rows, take_part};
 
 // What the last read said of the input.
-#[derive(Drop)]
+#[derive(Clone, Copy)]
 enum Input {
     More,
     Ended,
     Failed,
 }
 
-#[derive(Drop)]
+#[derive(Clone, Copy)]
 struct Got {
     state: State,
     input: Input,

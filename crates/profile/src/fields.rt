@@ -6,7 +6,7 @@ use table::version::Version;
 
 // The number fields: id, version, m, t and p. id is 1 to 5 in the order of the profiles' list; p is a u32, so that what is too large is refused
 // and not wrapped.
-#[derive(Drop)]
+#[derive(Clone, Copy)]
 pub struct NumberFields {
     pub id: u8,
     pub version: Version,
@@ -16,7 +16,7 @@ pub struct NumberFields {
 }
 
 // One of the four byte strings.
-#[derive(Drop)]
+#[derive(Clone, Copy)]
 pub enum ByteString {
     Keyid,
     Data,
@@ -26,7 +26,7 @@ pub enum ByteString {
 
 // What the profile reader gives: 0, the kind (1 parameters, 2 salt, 3 hash) and the number fields; or the refusal's number and zeros,
 // version absent.
-#[derive(Drop)]
+#[derive(Clone, Copy)]
 pub struct Reading {
     pub number: u8,
     pub kind: u8,
@@ -53,7 +53,7 @@ impl Reading {
 }
 
 // Which algorithm version a string means: 0 and the version, or the refusal's number and 0.
-#[derive(Drop)]
+#[derive(Clone, Copy)]
 pub struct AlgorithmVersion {
     pub number: u8,
     pub version: u32,

@@ -18,7 +18,7 @@ use table::limits::Column;
 use table::version::Version;
 
 // What the judge gives: the number of the row, 0 where none applies, and the numbers read.
-#[derive(Drop)]
+#[derive(Clone, Copy)]
 pub struct Judgement {
     pub number: u8,
     pub m: u32,

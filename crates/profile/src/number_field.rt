@@ -20,7 +20,7 @@ use table::ranges::{highest_of, lowest_of};
 use text::units::Chars;
 
 // What was read: the number of the row that applies, 0 where none does, and the value.
-#[derive(Drop)]
+#[derive(Clone, Copy)]
 pub struct Number {
     pub number: u8,
     pub value: u32,

@@ -5,7 +5,7 @@ use grammar::places::Places;
 
 // All that one reading of a string finds: the answer, the places of its pieces, and where the values of the names stand in the parameter
 // piece.
-#[derive(Drop)]
+#[derive(Clone, Copy)]
 pub struct ParsedString {
     pub reading: Reading,
     pub places: Places,

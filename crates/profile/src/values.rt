@@ -11,7 +11,7 @@ use text::scan::same_text;
 use text::units::Chars;
 
 // A value that is not there has the span 0 and 0. `unmatched`: items are left that have no name of the five, or not in their order.
-#[derive(Drop)]
+#[derive(Clone, Copy)]
 pub struct Values {
     pub m: Span,
     pub t: Span,
@@ -22,7 +22,7 @@ pub struct Values {
 }
 
 // Where a value stands, and where the next item begins.
-#[derive(Drop)]
+#[derive(Clone, Copy)]
 pub struct Step {
     pub span: Span,
     pub next: usize,

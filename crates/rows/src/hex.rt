@@ -10,7 +10,7 @@ use text::units::Bytes;
 const ROOM: usize = 80;
 
 // The bytes of a column: the first `count` of the array.
-#[derive(Drop)]
+#[derive(Clone, Copy)]
 pub struct HexColumn {
     pub array: [u8; ROOM],
     pub count: Bytes,

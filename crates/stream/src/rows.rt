@@ -7,7 +7,7 @@ use libc::STDOUT_FILENO;
 use text::order::min;
 
 // The bytes kept of the unfinished line, its number, the bytes of output that wait, and whether every write so far succeeded.
-#[derive(Drop)]
+#[derive(Clone, Copy)]
 pub struct State {
     pub kept: usize,
     pub line: u64,

@@ -6,7 +6,7 @@ use text::units::Bytes;
 pub const LONGEST_PERMITTED: usize = 265;
 
 // A number. Required: always written. Defaulted: left out where it is `default`. Constant: no parameter of this id, its number is `value`.
-#[derive(Drop)]
+#[derive(Clone, Copy)]
 pub enum NumberRule {
     Required { low: u32, high: u32 },
     Defaulted { low: u32, high: u32, default: u32 },
@@ -14,21 +14,21 @@ pub enum NumberRule {
 }
 
 // A byte string: of `low` to `high` bytes, left out where it is empty; or always empty.
-#[derive(Drop)]
+#[derive(Clone, Copy)]
 pub enum BytesRule {
     Sized { low: Bytes, high: Bytes },
     Forbidden,
 }
 
 // The versions that may be written: none, or one of two. A version may always be absent.
-#[derive(Drop)]
+#[derive(Clone, Copy)]
 pub enum Versions {
     Never,
     Either(u32, u32),
 }
 
 // The numbers that the short writer uses.
-#[derive(Drop)]
+#[derive(Clone, Copy)]
 pub struct ShortDefaults {
     pub version: Version,
     pub m: u32,
@@ -38,7 +38,7 @@ pub struct ShortDefaults {
 
 // A column of document 01's table. `name` is an index into the names (src/names.rt), `implied` the algorithm version that a string
 // without a version means.
-#[derive(Drop)]
+#[derive(Clone, Copy)]
 pub struct Column {
     pub known: bool,
     pub name: usize,

@@ -6,14 +6,14 @@ use crate::numbers::NO_ROOM;
 use crate::units::{Bytes, Chars};
 
 // What a writer of text gives: 0 and the characters written, or the refusal's number and 0.
-#[derive(Drop)]
+#[derive(Clone, Copy)]
 pub struct Written {
     pub number: u8,
     pub count: Chars,
 }
 
 // What a decoder gives: 0 and the bytes written, or the refusal's number and 0.
-#[derive(Drop)]
+#[derive(Clone, Copy)]
 pub struct Decoded {
     pub number: u8,
     pub count: Bytes,

@@ -4,11 +4,11 @@ ghost use Rattle.std.specs.Prelude.{◌≡◌};
 ghost use Rattle.text.specs.Units.{sum_within};
 
 // A length in characters of a text.
-#[derive(Drop)]
+#[derive(Clone, Copy)]
 pub struct Chars(pub usize);
 
 // A length in bytes, decoded.
-#[derive(Drop)]
+#[derive(Clone, Copy)]
 pub struct Bytes(pub usize);
 
 impl Chars {
