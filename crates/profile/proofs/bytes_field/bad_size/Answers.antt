@@ -1,8 +1,7 @@
 -- `profile::bytes_field::bad_size` meets its contract. Assumes nothing.
-use borrow.Author.Rules.{rules}
 use Rattle.b64.proofs.B64Laws.{length_decode}
 use Rattle.grammar.specs.Parts.{part_at}
-use Rattle.profile.proofs.OptionalTextLaws.{optional_none, optional_some}
+use Rattle.profile.proofs.OptionalTextLaws.{optional_some}
 use Rattle.profile.proofs.bytes_field.bad_size.Goals as goal
 
 pub returns : goal.returns

@@ -1,6 +1,5 @@
 -- `profile::name_field::name_len` meets its contract. Assumes nothing.
 use mathlib.Core.Path.{ap}
-use borrow.Author.Rules.{rules}
 use lib.ListN.{length}
 use Rattle.table.specs.Limits.{edition_two}
 use Rattle.profile.proofs.name_field.name_len.Goals as goal

@@ -3,11 +3,10 @@ use Prim.Native.Nat.{ℕ, ◌-◌}
 use mathlib.Core.List.{List, [], ◌∷◌}
 use mathlib.Core.Path.{subst}
 use native.Mathlib.Omega.{arith}
-use borrow.Author.Rules.{rules}
 use lib.ListN.{length, take, drop}
 use Rattle.text.specs.Text.{text}
 use Rattle.text.specs.Place.{Wrote}
-use Rattle.text.proofs.Wrote.{AllFit, First, Next, first_room, first_wrote, next_room, next_wrote, chain_sum}
+use Rattle.text.proofs.Wrote.{AllFit, First, Next, first_wrote, next_room, next_wrote}
 use Rattle.table.specs.Limits.{edition_two}
 use Rattle.table.specs.Columns.{name_at}
 use Rattle.profile.proofs.name_field.put_name.Goals as goal

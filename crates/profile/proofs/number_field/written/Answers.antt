@@ -1,9 +1,7 @@
 -- `profile::number_field::written` meets its contract. Assumes nothing.
-use borrow.Author.Rules.{rules}
-use mathlib.Core.Path.{◌≡◌, refl, sym, ◌∙◌}
+use mathlib.Core.Path.{sym, ◌∙◌}
 use native.Mathlib.Omega.{arith}
 use Rattle.decimal.proofs.NumeralLaws.{digits_limited}
-use Rattle.profile.specs.Fields.{number_reading}
 use Rattle.profile.proofs.number_field.written.Goals as goal
 
 pub overflow_cast-result : goal.overflow_cast-result

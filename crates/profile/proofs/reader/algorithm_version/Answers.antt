@@ -1,6 +1,5 @@
 -- `profile::reader::algorithm_version` meets its contract. Assumes nothing.
 use mathlib.Core.Path.{◌∙◌, ap}
-use borrow.Author.Rules.{rules}
 use Rattle.table.specs.Limits.{edition_two}
 use Rattle.profile.specs.Entries.{algorithm_version_of, algorithm_version}
 use Rattle.profile.proofs.reader.algorithm_version.Goals as goal

@@ -1,5 +1,4 @@
 -- `profile::reader::byte_string` meets its contract. Assumes nothing.
-use borrow.Author.Rules.{rules}
 use mathlib.Core.Path.{◌∙◌}
 use Rattle.profile.proofs.ReadLaws.{bytes-refused, bytes-decoded}
 use Rattle.profile.proofs.reader.byte_string.Goals as goal

@@ -1,5 +1,4 @@
 -- `profile::reader::parse` meets its contract. Assumes nothing.
-use borrow.Author.Rules.{rules}
 use mathlib.Core.Path.{◌≡◌, sym, ◌∙◌, ap}
 use Rattle.grammar.specs.Rules.{grammar_number}
 use Rattle.grammar.specs.declared.pieces.Layout.{Layout}

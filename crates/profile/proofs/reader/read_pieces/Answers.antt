@@ -3,17 +3,14 @@ use Prim.Native.Nat.{ℕ}
 use mathlib.Core.Bool.{not, cond}
 use mathlib.Core.List.{List, []}
 use mathlib.Core.Path.{sym, ◌∙◌, ap, subst}
-use borrow.Author.Rules.{rules}
 use lib.Dec.{eqb}
 use Rattle.grammar.specs.Items.{items}
 use Rattle.grammar.specs.Parts.{part_at}
 use Rattle.table.specs.Limits.{Profile, id_of, profile_of, edition_two}
 use Rattle.table.specs.Columns.{profile_in}
-use Rattle.table.specs.declared.version.Version.{Version}
 use Rattle.profile.specs.Reader.{rows_for}
 use Rattle.profile.specs.ReaderSteps.{span_text, span_texts, ValuesAre, Judged}
 use Rattle.profile.specs.declared.fields.Reading.{Reading}
-use Rattle.profile.specs.declared.values.Values.{Values}
 use Rattle.profile.proofs.ReadLaws.{part_items, Found, found, judged_number, accepted-reading, accepted_texts, reading-refused, parsed_refused}
 use Rattle.profile.proofs.reader.read_pieces.Goals as goal
 
@@ -22,7 +19,7 @@ values_at-values-requires c = part_items c.args.s.now c.requires.0 c.args.places
 
 pub returns-then-j-ne0 : goal.returns-then-j-ne0
 returns-then-j-ne0 c =
-    let seen : Found c.args.s.now c.args.places c.values_at-values.result c.id_number-id.result c.version_in-version.result =         found c.args.s.now c.requires.0 c.args.places c.requires.1 c.values_at-values.result c.id_number-id.result c.version_in-version.result
+    let seen : Found c.args.s.now c.args.places c.values_at-values.result c.id_number-id.result c.version_in-version.result = found c.args.s.now c.requires.0 c.args.places c.requires.1 c.values_at-values.result c.id_number-id.result c.version_in-version.result
     (c.id_number-id.ensures ∙ ap (id_of edition_two) c.part.ensures) c.version_in-version.ensures
     (subst (λ (t : List ℕ). ValuesAre t (cond (not (eqb c.args.places.params.at 0)) (items t) []) c.values_at-values.result) c.part-params.ensures c.values_at-values.ensures) in
     let said : let s = c.args.s.now in let w = c.args.places in let vs = span_texts (part_at s w.params) c.values_at-values.result in Judged (rows_for (profile_of edition_two c.id_number-id.result) c.version_in-version.result vs c.values_at-values.result.unmatched (span_text s w.salt) (span_text s w.output)) (profile_of edition_two c.id_number-id.result) vs c.judge-j.result = let s = c.args.s.now in
@@ -42,7 +39,7 @@ returns-then-j-ne0 c =
 
 pub returns : goal.returns
 returns c =
-    let seen : Found c.args.s.now c.args.places c.values_at-values.result c.id_number-id.result c.version_in-version.result =         found c.args.s.now c.requires.0 c.args.places c.requires.1 c.values_at-values.result c.id_number-id.result c.version_in-version.result
+    let seen : Found c.args.s.now c.args.places c.values_at-values.result c.id_number-id.result c.version_in-version.result = found c.args.s.now c.requires.0 c.args.places c.requires.1 c.values_at-values.result c.id_number-id.result c.version_in-version.result
     (c.id_number-id.ensures ∙ ap (id_of edition_two) c.part.ensures) c.version_in-version.ensures
     (subst (λ (t : List ℕ). ValuesAre t (cond (not (eqb c.args.places.params.at 0)) (items t) []) c.values_at-values.result) c.part-params.ensures c.values_at-values.ensures) in
     let said : let s = c.args.s.now in let w = c.args.places in let vs = span_texts (part_at s w.params) c.values_at-values.result in Judged (rows_for (profile_of edition_two c.id_number-id.result) c.version_in-version.result vs c.values_at-values.result.unmatched (span_text s w.salt) (span_text s w.output)) (profile_of edition_two c.id_number-id.result) vs c.judge-j.result = let s = c.args.s.now in
@@ -57,5 +54,5 @@ returns c =
     let z = c.if-j-ne0.false in
     record {
       reading_is = accepted-reading c.args.s.now c.requires.0 c.args.places c.values_at-values.result c.id_number-id.result c.version_in-version.result seen c.judge-j.result said z c.kind_of.result c.kind_of.ensures;
-      texts = λ q b. accepted_texts c.args.s.now c.requires.0 c.args.places c.values_at-values.result c.id_number-id.result c.version_in-version.result seen c.judge-j.result said z _ b;
+      texts = λ q b. accepted_texts c.args.s.now c.requires.0 c.args.places c.values_at-values.result c.id_number-id.result c.version_in-version.result seen c.judge-j.result said z (record { number = 0; kind = c.kind_of.result; fields = record { id = c.id_number-id.result; version = c.version_in-version.result; m = c.judge-j.result.m; t = c.judge-j.result.t; p = c.judge-j.result.p } }) b;
     }

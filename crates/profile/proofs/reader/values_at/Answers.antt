@@ -1,5 +1,4 @@
 -- `profile::reader::values_at` meets its contract. Assumes nothing.
-use borrow.Author.Rules.{rules}
 use Rattle.profile.proofs.reader.values_at.Goals as goal
 
 pub returns : goal.returns

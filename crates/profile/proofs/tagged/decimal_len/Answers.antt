@@ -1,6 +1,5 @@
 -- `profile::tagged::decimal_len` meets its contract. Assumes nothing.
 use native.Mathlib.Omega.{arith}
-use borrow.Author.Rules.{rules}
 use Rattle.decimal.proofs.DecimalLaws.{length_digits}
 use Rattle.profile.proofs.tagged.decimal_len.Goals as goal
 

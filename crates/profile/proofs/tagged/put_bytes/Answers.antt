@@ -2,9 +2,7 @@
 use mathlib.Core.List.{[], ◌∷◌, ◌++◌}
 use mathlib.Core.Path.{◌≡◌}
 use native.Mathlib.Omega.{arith}
-use borrow.Author.Rules.{rules}
-use Rattle.text.proofs.Wrote.{AllFit, First, More, wrote_nothing, first_room, first_wrote, next_put, chain_sum}
-use Rattle.text.proofs.Lists.{length-nil}
+use Rattle.text.proofs.Wrote.{AllFit, First, More, first_wrote, next_put, chain_sum}
 use Rattle.b64.specs.B64.{encode}
 use Rattle.profile.specs.Fields.{write_bytes}
 use Rattle.profile.specs.PieceTexts.{tagged}

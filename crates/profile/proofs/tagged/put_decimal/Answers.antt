@@ -1,8 +1,7 @@
 -- `profile::tagged::put_decimal` meets its contract. Assumes nothing.
 use mathlib.Core.List.{[], ◌∷◌}
 use native.Mathlib.Omega.{arith}
-use borrow.Author.Rules.{rules}
-use Rattle.text.proofs.Wrote.{AllFit, First, More, first_room, first_wrote, next_put, chain_sum}
+use Rattle.text.proofs.Wrote.{AllFit, First, More, first_wrote, next_put, chain_sum}
 use Rattle.decimal.specs.Decimal.{digits}
 use Rattle.profile.proofs.tagged.put_decimal.Goals as goal
 

@@ -1,5 +1,4 @@
 -- `profile::tagged::put_text` meets its contract. Assumes nothing.
-use borrow.Author.Rules.{rules}
 use Rattle.text.proofs.Wrote.{wrote_start}
 use Rattle.profile.proofs.tagged.put_text.Goals as goal
 

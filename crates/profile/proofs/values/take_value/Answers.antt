@@ -2,7 +2,6 @@
 use Prim.Native.Nat.{ℕ}
 use mathlib.Core.Path.{◌≡◌, ◌∙◌, sym, ap}
 use mathlib.Core.List.{List}
-use borrow.Author.Rules.{rules}
 use Rattle.text.specs.Text.{same}
 use Rattle.grammar.specs.Parts.{part_at}
 use Rattle.profile.proofs.ValueLaws.{step_past, step_to, step_not}

@@ -1,6 +1,5 @@
 -- `profile::values::values_in` meets its contract. Assumes nothing.
 use mathlib.Core.Path.{◌∙◌, sym, ap}
-use borrow.Author.Rules.{rules}
 use Rattle.text.specs.Text.{all}
 use Rattle.grammar.specs.Rules.{is_item}
 use Rattle.grammar.proofs.ItemLaws.{items_start}
@@ -11,16 +10,16 @@ pub take_value-m-requires : goal.take_value-m-requires
 take_value-m-requires c = ap (all is_item) (sym (items_start c.args.params.now)) ∙ c.requires
 
 pub take_value-t-requires : goal.take_value-t-requires
-take_value-t-requires c = on c.take_value-m.ensures (take-value-requires ⟪After-take_value⟫ κs)
+take_value-t-requires c = on c.take_value-m.ensures (ap (all is_item) (sym (items_start c.args.params.now)) ∙ c.requires)
 
 pub take_value-p-requires : goal.take_value-p-requires
-take_value-p-requires c = on c.take_value-t.ensures (take-value-requires-2 ⟪After-take_value2⟫ κs)
+take_value-p-requires c = on c.take_value-t.ensures (on c.take_value-m.ensures (ap (all is_item) (sym (items_start c.args.params.now)) ∙ c.requires))
 
 pub take_value-keyid-requires : goal.take_value-keyid-requires
-take_value-keyid-requires c = on c.take_value-p.ensures (take-value-requires-3 ⟪After-take_value3⟫ κs)
+take_value-keyid-requires c = on c.take_value-p.ensures (on c.take_value-t.ensures (on c.take_value-m.ensures (ap (all is_item) (sym (items_start c.args.params.now)) ∙ c.requires)))
 
 pub take_value-data-requires : goal.take_value-data-requires
-take_value-data-requires c = on c.take_value-keyid.ensures (take-value-requires-4 ⟪After-take_value4⟫ κs)
+take_value-data-requires c = on c.take_value-keyid.ensures (on c.take_value-p.ensures (on c.take_value-t.ensures (on c.take_value-m.ensures (ap (all is_item) (sym (items_start c.args.params.now)) ∙ c.requires))))
 
 pub returns : goal.returns
 returns c = values_are c.args.params.now _ _ _ _ _ _ _ _ _ _

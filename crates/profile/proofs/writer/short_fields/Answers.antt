@@ -1,6 +1,5 @@
 -- `profile::writer::short_fields` meets its contract. Assumes nothing.
 use mathlib.Core.Path.{ap}
-use borrow.Author.Rules.{rules}
 use Rattle.table.specs.Limits.{Profile}
 use Rattle.profile.specs.Writer.{short_fields}
 use Rattle.profile.specs.declared.fields.NumberFields.{NumberFields}

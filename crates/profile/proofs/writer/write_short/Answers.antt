@@ -1,7 +1,6 @@
 -- `profile::writer::write_short` meets its contract. Assumes nothing.
 use mathlib.Core.List.{[]}
 use mathlib.Core.Path.{◌∙◌}
-use borrow.Author.Rules.{rules}
 use Rattle.table.specs.Limits.{edition_two}
 use Rattle.profile.specs.Fields.{field_set}
 use Rattle.profile.specs.Entries.{writing}

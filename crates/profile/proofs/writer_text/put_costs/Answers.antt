@@ -1,9 +1,8 @@
 -- `profile::writer_text::put_costs` meets its contract: each number is put into what is left after the one before it. Assumes nothing.
 use mathlib.Core.List.{[], ◌∷◌}
 use native.Mathlib.Omega.{arith}
-use borrow.Author.Rules.{rules}
 use Rattle.text.specs.Text.{text}
-use Rattle.text.proofs.Wrote.{AllFit, First, Next, first_room, first_wrote, next_room, next_wrote, chain_sum}
+use Rattle.text.proofs.Wrote.{AllFit, First, Next, first_wrote, next_wrote}
 use Rattle.table.specs.Columns.{profile_in}
 use Rattle.profile.specs.Fields.{write_number}
 use Rattle.profile.specs.PieceTexts.{tagged}

@@ -1,9 +1,8 @@
 -- `profile::writer_text::put_head` meets its contract: the version and the parameters are put after the id. Assumes nothing.
 use mathlib.Core.List.{[], ◌∷◌}
 use native.Mathlib.Omega.{arith}
-use borrow.Author.Rules.{rules}
 use Rattle.text.specs.Text.{text}
-use Rattle.text.proofs.Wrote.{AllFit, First, Next, first_room, first_wrote, next_room, next_wrote, chain_sum}
+use Rattle.text.proofs.Wrote.{AllFit, First, Next, first_wrote, next_wrote}
 use Rattle.table.specs.Columns.{name_at, profile_in}
 use Rattle.profile.specs.Fields.{write_version}
 use Rattle.profile.specs.PieceTexts.{tagged, items_text, dollared}
