@@ -1,7 +1,6 @@
 -- `accounts::batch::judge_batch` meets its contract, by the room. Assumes nothing.
 use mathlib.Core.Path.{sym, ◌∙◌}
-use borrow.Author.Rules.{rules}
-use borrow.Author.Tests.{leb-true, leb-false, not-true, not-false}
+use borrow.Author.Tests.{leb-false}
 use lib.ListN.{length}
 use Rattle.accounts.specs.Batches.{batch_count}
 use Rattle.accounts.proofs.BatchLaws.{batch_full}

@@ -1,7 +1,6 @@
 -- `accounts::line::name_refusal` meets its contract. Assumes nothing.
 use mathlib.Core.Path.{sym, ◌∙◌}
 use native.Mathlib.Omega.{arith}
-use borrow.Author.Rules.{rules}
 use Rattle.accounts.proofs.LineLaws.{line_untabbed, line_named, line_unnamed}
 use Rattle.accounts.proofs.line.name_refusal.Goals as goal
 

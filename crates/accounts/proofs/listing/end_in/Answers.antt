@@ -1,6 +1,5 @@
 -- `accounts::listing::end_in` meets its contract. Assumes nothing.
 use mathlib.Core.Path.{sym, ap, ◌∙◌}
-use borrow.Author.Rules.{rules}
 use Rattle.text.specs.Place.{put}
 use Rattle.accounts.specs.Feeding.{end_put}
 use Rattle.accounts.proofs.FeedLaws.{end_nothing, end_row}

@@ -1,5 +1,4 @@
 -- `accounts::listing::held_len` meets its contract. Assumes nothing.
-use borrow.Author.Rules.{rules}
 use Rattle.accounts.proofs.FeedLaws.{held_by}
 use Rattle.accounts.proofs.listing.held_len.Goals as goal
 

@@ -1,12 +1,7 @@
 -- `accounts::listing::judge_joined` meets its contract. Assumes nothing.
 use native.Mathlib.Omega.{arith}
-use mathlib.Core.List.{List, ◌++◌}
-use Prim.Native.Nat.{ℕ}
-use mathlib.Core.Path.{sym, ap, ◌∙◌}
-use borrow.Author.Rules.{rules}
+use mathlib.Core.List.{◌++◌}
 use lib.ListN.{length-append}
-use Rattle.text.proofs.Lists.{length-nil}
-use Rattle.accounts.specs.Lines.{line_answer}
 use Rattle.accounts.proofs.LineLaws.{answer_long}
 use Rattle.accounts.proofs.listing.judge_joined.Goals as goal
 

@@ -1,5 +1,4 @@
 -- `accounts::listing::keep` meets its contract. Assumes nothing.
-use borrow.Author.Rules.{rules}
 use Rattle.text.proofs.Prefixes.{kept_more}
 use Rattle.accounts.specs.Feeding.{most_kept}
 use Rattle.accounts.proofs.listing.keep.Goals as goal

@@ -1,6 +1,5 @@
 -- `accounts::listing::next_line` meets its contract. Assumes nothing.
 use native.Mathlib.Numerals.{add-one}
-use borrow.Author.Rules.{rules}
 use borrow.Author.Tests.{lt-ltb, le-ltb}
 use Rattle.accounts.specs.Listing.{next_line}
 use Rattle.accounts.proofs.listing.next_line.Goals as goal

@@ -1,5 +1,4 @@
 -- `accounts::listing::row_of` meets its contract, by the room. Assumes nothing.
-use borrow.Author.Rules.{rules}
 use Rattle.accounts.specs.Listing.{row_text}
 use Rattle.accounts.proofs.FeedLaws.{row_full, row_done}
 use Rattle.accounts.proofs.listing.row_of.Goals as goal

@@ -1,6 +1,5 @@
 -- `accounts::room::answers_fit` meets its contract. Assumes nothing.
-use borrow.Author.Rules.{rules}
-use Rattle.accounts.proofs.BatchLaws.{fit_limit, fit_lines}
+use Rattle.accounts.proofs.BatchLaws.{fit_lines}
 use Rattle.accounts.proofs.room.answers_fit.Goals as goal
 
 pub returns : goal.returns

@@ -1,8 +1,7 @@
 -- `accounts::row::put_row` meets its contract: each text is put after the one before it. Assumes nothing.
 use mathlib.Core.List.{[], ◌∷◌}
 use native.Mathlib.Omega.{arith}
-use borrow.Author.Rules.{rules}
-use Rattle.text.proofs.Wrote.{AllFit, First, More, first-put, next_put, chain_sum, chain_length}
+use Rattle.text.proofs.Wrote.{AllFit, First, More, first-put, next_put, chain_sum}
 use Rattle.decimal.specs.Decimal.{digits}
 use Rattle.accounts.specs.Listing.{kind_line, row_text}
 use Rattle.accounts.proofs.row.put_row.Goals as goal

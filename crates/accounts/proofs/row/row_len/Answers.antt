@@ -1,6 +1,5 @@
 -- `accounts::row::row_len` meets its contract: the two numbers are short, so no sum is held. Assumes nothing.
 use native.Mathlib.Omega.{arith}
-use borrow.Author.Rules.{rules}
 use Rattle.decimal.proofs.DecimalLaws.{length_digits}
 use Rattle.accounts.proofs.RowLaws.{row-length, kind_length}
 use Rattle.accounts.proofs.row.row_len.Goals as goal

@@ -1,8 +1,5 @@
 -- `accounts::row::write_row` meets its contract, by the room. Assumes nothing.
-use native.Mathlib.Omega.{arith}
-use borrow.Author.Rules.{rules}
-use borrow.Author.Tests.{not-true, not-false}
-use Rattle.text.proofs.Writers.{Asked, writer_fits, writer_full, writer_room, writer_over}
+use Rattle.text.proofs.Writers.{Asked, writer_full, writer_over}
 use Rattle.accounts.specs.Listing.{row_text}
 use Rattle.accounts.proofs.row.write_row.Goals as goal
 

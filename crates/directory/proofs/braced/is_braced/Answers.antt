@@ -1,6 +1,5 @@
 -- `directory::braced::is_braced` meets its contract. Assumes nothing.
 use mathlib.Core.Path.{sym, ◌∙◌}
-use borrow.Author.Rules.{rules}
 use Rattle.directory.proofs.Prefixes.{short_not_braced, braced_first, braced_second}
 use Rattle.directory.proofs.braced.is_braced.Goals as goal
 

@@ -1,6 +1,5 @@
 -- `directory::braced::put_dollar_string` meets its contract. Assumes nothing.
 use native.Mathlib.Omega.{arith}
-use borrow.Author.Rules.{rules}
 use Rattle.directory.proofs.Prefixes.{braced_length}
 use Rattle.directory.proofs.ReaderLaws.{held}
 use Rattle.directory.proofs.braced.put_dollar_string.Goals as goal

@@ -2,8 +2,6 @@
 use Prim.Native.Nat.{ℕ}
 use mathlib.Core.List.{List}
 use mathlib.Core.Path.{◌∙◌}
-use native.Mathlib.Omega.{arith}
-use borrow.Author.Rules.{rules}
 use Rattle.text.specs.Place.{refused}
 use Rattle.table.specs.Limits.{edition_two}
 use Rattle.profile.specs.Entries.{decoded}
@@ -17,6 +15,6 @@ returns-then-number-ne0 c = let a = c.args in
 
 pub returns : goal.returns
 unfolding directory_decoded
-returns c = let a = c.LOST.args in
+returns c = let a = c.args in
     c.byte_string.ensures
-    ∙ of_held (refused 24 a.buf.now) (λ (s : List ℕ). decoded edition_two a.choice s a.buf.now a.at) a.t.now _ c.put-dollar-string.ensures
+    ∙ of_held (refused 24 a.buf.now) (λ (s : List ℕ). decoded edition_two a.choice s a.buf.now a.at) a.t.now _ c.put_dollar_string.ensures

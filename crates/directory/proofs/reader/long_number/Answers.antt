@@ -1,5 +1,4 @@
 -- `directory::reader::long_number` meets its contract. Assumes nothing.
-use borrow.Author.Rules.{rules}
 use Rattle.directory.proofs.Prefixes.{braced_some}
 use Rattle.directory.proofs.ReaderLaws.{number_long, number_held}
 use Rattle.directory.proofs.reader.long_number.Goals as goal
@@ -10,5 +9,4 @@ returns-then-t-gt-LONGEST_STRING c = let t = c.args.t.now in
     number_long t s d c.if-t-gt-LONGEST_STRING.true
 
 pub returns : goal.returns
-returns c = let s = c.LOST. in
-    number_held s.args.t.now _ c.put-dollar-string.ensures _ c.read-r.ensures
+returns c = number_held c.args.t.now _ c.put_dollar_string.ensures _ c.read-r.ensures

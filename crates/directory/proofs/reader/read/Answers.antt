@@ -1,7 +1,5 @@
 -- `directory::reader::read` meets its contract. Assumes nothing.
 use mathlib.Core.Path.{◌∙◌}
-use native.Mathlib.Omega.{arith}
-use borrow.Author.Rules.{rules}
 use Rattle.table.specs.Limits.{edition_two}
 use Rattle.profile.specs.Entries.{refused_reading, reading}
 use Rattle.directory.specs.Entries.{directory_reading}
@@ -13,5 +11,5 @@ returns-then-number-ne0 c = c.refused.ensures ∙ read_refused edition_two c.arg
 
 pub returns : goal.returns
 unfolding directory_reading
-returns c = let a = c.LOST.args in
-    c.read.ensures ∙ of_held (refused_reading 24) (reading edition_two) a.t.now _ c.put-dollar-string.ensures
+returns c = let a = c.args in
+    c.read.ensures ∙ of_held (refused_reading 24) (reading edition_two) a.t.now _ c.put_dollar_string.ensures

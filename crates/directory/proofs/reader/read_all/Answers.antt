@@ -2,8 +2,6 @@
 use Prim.Native.Nat.{ℕ}
 use mathlib.Core.List.{List}
 use mathlib.Core.Path.{◌∙◌, ap}
-use native.Mathlib.Omega.{arith}
-use borrow.Author.Rules.{rules}
 use Rattle.text.specs.Place.{Outcome, refused}
 use Rattle.table.specs.Limits.{edition_two}
 use Rattle.fast_path.specs.Contents.{refused_contents, all_decoded, contents}
@@ -20,8 +18,8 @@ returns-then-number-ne0 c = let a = c.args in
 
 pub returns : goal.returns
 unfolding directory_all_decoded directory_contents
-returns c = let a = c.LOST.args in
+returns c = let a = c.args in
     let b = a.buf.now in (
-      c.read_all.ensures.0 ∙ of_held (refused_contents 24) (λ (s : List ℕ). contents edition_two s b a.at) a.t.now _ c.put-dollar-string.ensures,
-      c.read_all.ensures.1 ∙ ap (λ (o : Outcome). o.buffer) (of_held (refused 24 b) (λ (s : List ℕ). all_decoded edition_two s b a.at) a.t.now _ c.put-dollar-string.ensures),
+      c.read_all.ensures.0 ∙ of_held (refused_contents 24) (λ (s : List ℕ). contents edition_two s b a.at) a.t.now _ c.put_dollar_string.ensures,
+      c.read_all.ensures.1 ∙ ap (λ (o : Outcome). o.buffer) (of_held (refused 24 b) (λ (s : List ℕ). all_decoded edition_two s b a.at) a.t.now _ c.put_dollar_string.ensures),
     )

@@ -1,10 +1,8 @@
 -- `directory::reader::refusal_of` meets its contract. Assumes nothing.
 use mathlib.Core.Bool.{true}
 use mathlib.Core.Path.{◌≡◌, sym, ◌∙◌}
-use borrow.Author.Rules.{rules}
-use borrow.Author.Tests.{not-true, not-false}
 use Rattle.directory.specs.BracedSteps.{is_braced}
-use Rattle.directory.proofs.ReaderLaws.{refusal_none, refusal_short, refusal_long}
+use Rattle.directory.proofs.ReaderLaws.{refusal_none, refusal_long}
 use Rattle.directory.proofs.reader.refusal_of.Goals as goal
 
 pub returns-then-not-is_braced : goal.returns-then-not-is_braced

@@ -4,8 +4,6 @@ use mathlib.Core.Bool.{true}
 use mathlib.Core.List.{List}
 use mathlib.Core.Path.{◌≡◌, refl, sym, ap, ◌∙◌}
 use native.Mathlib.Omega.{arith}
-use borrow.Author.Rules.{rules}
-use borrow.Author.Tests.{not-true, not-false}
 use lib.ListN.{take, drop}
 use Rattle.text.specs.Place.{outcome, put}
 use Rattle.profile.specs.Fields.{FieldSet, field_set}
@@ -35,17 +33,17 @@ returns-then-len-lt-PREFIX_LEN c =
 
 pub slice_bounds-write_text-end : goal.slice_bounds-write_text-end
 slice_bounds-write_text-end c =
-    let of_two : is_directory_id (fields c.LOST.).numbers.id ≡ true = sym c.is-directory-id.ensures ∙ not-false _ c.is_directory_id.false in
-    let s = c.LOST. in
-    let l = count_most (fields s) s.args.buf.now s.args.at of_two _ _ refl _ _ c.write.ensures c.struct_known-1.false in
+    let fields : FieldSet = field_set c.args.n c.args.keyid.now c.args.«data».now c.args.salt.now c.args.output.now in
+    let of_two : is_directory_id fields.numbers.id ≡ true = sym c.is_directory_id.ensures ∙ c.if-not-is_directory_id.false in
+    let l = count_most fields c.args.buf.now c.args.at of_two _ _ refl _ _ c.write-w.ensures c.if-w-ne0.false in
     omega arith
 
 pub returns : goal.returns
 returns c =
-    let of_two : is_directory_id (fields c.LOST.).numbers.id ≡ true = sym c.is-directory-id.ensures ∙ not-false _ c.is_directory_id.false in
-    let s = c.LOST. in
-    let b = s.args.buf.now in
-    let n = c.write.result.count.0 in
+    let fields : FieldSet = field_set c.args.n c.args.keyid.now c.args.«data».now c.args.salt.now c.args.output.now in
+    let of_two : is_directory_id fields.numbers.id ≡ true = sym c.is_directory_id.ensures ∙ c.if-not-is_directory_id.false in
+    let b = c.args.buf.now in
+    let n = c.write-w.result.count.0 in
     c.write_text.ensures
-    ∙ ap (λ (x : List ℕ). put b s.args.at (take (n - 0) (drop 0 x))) c.mark.ensures
-    ∙ write_done (fields s) b s.args.at of_two _ _ refl _ _ c.write.ensures c.struct_known-1.false c.if-w-ne0.false
+    ∙ ap (λ (x : List ℕ). put b c.args.at (take (n - 0) (drop 0 x))) c.mark.ensures
+    ∙ write_done fields b c.args.at of_two _ _ refl _ _ c.write-w.ensures c.if-w-ne0.false c.if-len-lt-PREFIX_LEN.false
