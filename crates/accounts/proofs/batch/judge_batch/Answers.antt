@@ -7,6 +7,7 @@ use Rattle.accounts.proofs.BatchLaws.{batch_full}
 use Rattle.accounts.proofs.batch.judge_batch.Goals as goal
 
 pub returns-then-not-answers_fit : goal.returns-then-not-answers_fit
-returns-then-not-answers_fit c = let a = c.args in
+returns-then-not-answers_fit c =
+    let a = c.args in
     batch_full a.text.now a.from a.limit a.answers.now
     (leb-false (batch_count a.text.now a.from a.limit) (length a.answers.now) (sym c.answers_fit.ensures ∙ c.if-not-answers_fit.true))

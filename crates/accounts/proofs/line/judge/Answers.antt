@@ -11,7 +11,8 @@ pub returns-then-line-gt-LONGEST_LINE : goal.returns-then-line-gt-LONGEST_LINE
 returns-then-line-gt-LONGEST_LINE c = answer_long c.args.line.now c.if-line-gt-LONGEST_LINE.true
 
 pub returns-then-number-ne0 : goal.returns-then-number-ne0
-returns-then-number-ne0 c = let l = c.args.line.now in
+returns-then-number-ne0 c =
+    let l = c.args.line.now in
     answer_row l c.name_refusal-number.result c.name_refusal-number.ensures c.if-number-ne0.true
 
 pub overflow_add-tab : goal.overflow_add-tab

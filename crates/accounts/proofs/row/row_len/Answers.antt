@@ -5,7 +5,8 @@ use Rattle.accounts.proofs.RowLaws.{row-length, kind_length}
 use Rattle.accounts.proofs.row.row_len.Goals as goal
 
 pub returns : goal.returns
-returns c = let l = length_digits 19 c.args.line (omega (arith, c.ranges.line.fits)) in
+returns c =
+    let l = length_digits 19 c.args.line (omega (arith, c.ranges.line.fits)) in
     let n = length_digits 19 c.args.answer.number (omega (arith, c.well_formed.1.0)) in
     omega (
       arith,

@@ -42,6 +42,7 @@ returns-then-is_canonical_by c =
     writer_full asked c.if-has_room.false ∙ sym (put_clear a.buf.now a.at (decode a.text.now) _ clear)
 
 pub returns : goal.returns
-returns c = let a = c.args in
+returns c =
+    let a = c.args in
     put_refused a.buf.now a.at (decode a.text.now) _ 12
     (ap (λ (b : Bool). cond b 0 12) (sym c.is_canonical_by.ensures ∙ c.if-is_canonical_by.false)) (omega arith)

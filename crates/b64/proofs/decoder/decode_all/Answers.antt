@@ -11,7 +11,8 @@ decode_rest-requires-clause-i_in_bounds c =
     (r.inside, r.room, stopped_end c.args.text.now 0 c.args.out.now 0 _ _ _ r (omega (arith, c.if-text-i-lt4.true, r.inside)))
 
 pub returns-then-text-i-lt4 : goal.returns-then-text-i-lt4
-returns-then-text-i-lt4 c = let t = c.args.text.now in
+returns-then-text-i-lt4 c =
+    let t = c.args.text.now in
     let d = c.args.out.now in
     let r = c.decode_pairs-g.ensures.0 in
     all-decoded t c.requires.text_value d _ c.requires.text_in_bounds _

@@ -6,7 +6,8 @@ use Rattle.b64.proofs.RunLaws.{reached_start, reached_more, bound_inside, stoppe
 use Rattle.b64.proofs.decoder.decode_groups.Goals as goal
 
 pub loop-i-init : goal.loop-i-init
-loop-i-init c = let a = c.args in
+loop-i-init c =
+    let a = c.args in
     reached_start a.s.now a.at a.out.now a.from c.requires.at_in_bounds.0 c.requires.at_in_bounds.1
 
 pub loop-i-preserved : goal.loop-i-preserved
@@ -21,7 +22,8 @@ loop-i-preserved c =
     inside.1 _ c.put_three.ensures
 
 pub returns : goal.returns
-returns c = let l = c.loop-i in
+returns c =
+    let l = c.loop-i in
     let a = c.args in (
       l.invariant,
       stopped_bound a.s.now a.at a.out.now a.from l.out l.i l.o l.invariant c.requires.at_in_bounds.0 c.requires.at_in_bounds.1

@@ -6,7 +6,8 @@ use Rattle.b64.proofs.RunLaws.{reached_start, group_in, group_room, group_reache
 use Rattle.b64.proofs.decoder.decode_pairs.Goals as goal
 
 pub loop-i-init : goal.loop-i-init
-loop-i-init c = let a = c.args in
+loop-i-init c =
+    let a = c.args in
     reached_start a.text.now 0 a.out.now 0 (omega arith) (omega arith)
 
 pub put_group-requires-clause-i_in_bounds : goal.put_group-requires-clause-i_in_bounds

@@ -19,7 +19,8 @@ encode_group-requires-clause-in_bounds c =
     ((omega arith, omega arith))
 
 pub loop-i-preserved : goal.loop-i-preserved
-loop-i-preserved c = let a = c.args in
+loop-i-preserved c =
+    let a = c.args in
     let i = c.loop-i.i in
     let g = encode_group (drop i a.bytes.now) (omega (arith, length-drop i a.bytes.now)) in (
       omega arith,
@@ -28,6 +29,7 @@ loop-i-preserved c = let a = c.args in
     )
 
 pub returns : goal.returns
-returns c = let a = c.args in
+returns c =
+    let a = c.args in
     lent_last encode a.bytes.now a.out.now c.loop-i.out c.loop-i.i c.loop-i.o c.loop-i.invariant.1 c.requires.bytes_in_bounds
     _ c.encode_rest.ensures

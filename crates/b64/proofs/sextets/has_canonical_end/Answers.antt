@@ -10,9 +10,11 @@ pub returns-then-rest-eq0 : goal.returns-then-rest-eq0
 returns-then-rest-eq0 c = ends_0 c.args.text.now (omega arith)
 
 pub returns-then-rest-eq2 : goal.returns-then-rest-eq2
-returns-then-rest-eq2 c = let t = c.args.text.now in
+returns-then-rest-eq2 c =
+    let t = c.args.text.now in
     ap (λ (x : ℕ). eqb (x % 16) 0) c.sextet_of-last.ensures ∙ ends_2 t (omega arith)
 
 pub returns-else-rest-eq2 : goal.returns-else-rest-eq2
-returns-else-rest-eq2 c = let t = c.args.text.now in
+returns-else-rest-eq2 c =
+    let t = c.args.text.now in
     ap (λ (x : ℕ). eqb (x % 4) 0) c.sextet_of-last.ensures ∙ ends_3 t (omega arith)

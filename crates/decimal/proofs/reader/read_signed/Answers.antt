@@ -11,14 +11,16 @@ pub returns-then-text-eq0 : goal.returns-then-text-eq0
 returns-then-text-eq0 c = ap signed (sym (numeral-none least greatest _ c.if-text-eq0.true))
 
 pub returns-then-text-eq45 : goal.returns-then-text-eq45
-returns-then-text-eq45 c = let s = c.args.text.now in
+returns-then-text-eq45 c =
+    let s = c.args.text.now in
     c.read_minus.ensures
     ∙ ap (λ l. minus (unsigned_reading 9223372036854775808 l)) (tail_part s 1)
     ∙ signed-minus (unsigned_reading 9223372036854775808 (drop 1 s))
     ∙ ap signed (numeral-minus least 9223372036854775808 down_least 9223372036854775807 s c.if-text-eq0.false c.if-text-eq45.true)
 
 pub returns : goal.returns
-returns c = let s = c.args.text.now in
+returns c =
+    let s = c.args.text.now in
     c.read_plain.ensures
     ∙ signed-plain (unsigned_reading 9223372036854775807 s)
     ∙ ap signed (numeral-plain least 9223372036854775807 s c.if-text-eq0.false c.if-text-eq45.false)

@@ -5,7 +5,8 @@ use Rattle.decimal.proofs.SignSteps.{text_below, text_other}
 use Rattle.decimal.proofs.writer.decimal_len.Goals as goal
 
 pub overflow_add-result : goal.overflow_add-result
-overflow_add-result c = let m = c.magnitude-size in
+overflow_add-result c =
+    let m = c.magnitude-size in
     omega (arith, length_digits 19 m.result (omega (arith, m.type_inv)))
 
 pub returns-then-value-lt0 : goal.returns-then-value-lt0

@@ -5,7 +5,8 @@ use Rattle.directory.proofs.ReaderLaws.{held}
 use Rattle.directory.proofs.braced.put_dollar_string.Goals as goal
 
 pub mark-requires : goal.mark-requires
-mark-requires c = let l = braced_length c.args.t.now c.requires.0 in
+mark-requires c =
+    let l = braced_length c.args.t.now c.requires.0 in
     omega arith
 
 pub returns : goal.returns

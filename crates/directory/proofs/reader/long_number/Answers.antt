@@ -4,7 +4,8 @@ use Rattle.directory.proofs.ReaderLaws.{number_long, number_held}
 use Rattle.directory.proofs.reader.long_number.Goals as goal
 
 pub returns-then-t-gt-LONGEST_STRING : goal.returns-then-t-gt-LONGEST_STRING
-returns-then-t-gt-LONGEST_STRING c = let t = c.args.t.now in
+returns-then-t-gt-LONGEST_STRING c =
+    let t = c.args.t.now in
     let (s, d) = braced_some t c.requires in
     number_long t s d c.if-t-gt-LONGEST_STRING.true
 

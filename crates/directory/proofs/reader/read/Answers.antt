@@ -11,5 +11,6 @@ returns-then-number-ne0 c = c.refused.ensures ∙ read_refused edition_two c.arg
 
 pub returns : goal.returns
 unfolding directory_reading
-returns c = let a = c.args in
+returns c =
+    let a = c.args in
     c.read.ensures ∙ of_held (refused_reading 24) (reading edition_two) a.t.now _ c.put_dollar_string.ensures

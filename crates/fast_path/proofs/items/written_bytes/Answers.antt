@@ -6,7 +6,8 @@ use Rattle.fast_path.proofs.StringLaws.{bytes_no, bytes-empty, bytes_unsized, by
 use Rattle.fast_path.proofs.items.written_bytes.Goals as goal
 
 pub returns-then-not-run : goal.returns-then-not-run
-returns-then-not-run c = let a = c.args in
+returns-then-not-run c =
+    let a = c.args in
     bytes_no a.rule a.s.now a.at a.out.now a.from c.requires.1 (sym c.decode_run-run.ensures.complete_is ∙ is_false c.decode_run-run.result.complete c.if-not-run.true)
 
 pub returns-then-n-eq0 : goal.returns-then-n-eq0

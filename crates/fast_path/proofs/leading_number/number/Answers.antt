@@ -10,7 +10,8 @@ pub loop-i-init : goal.loop-i-init
 loop-i-init c = (omega arith, counting_start c.args.s.now c.args.at (omega arith))
 
 pub finished-requires : goal.finished-requires
-finished-requires c = let r = c.wrapping_sub_u8-d in
+finished-requires c =
+    let r = c.wrapping_sub_u8-d in
     (c.if-s-at.false, counting_stop _ _ _ _ c.loop-i.invariant.1 (other_byte _ _ r.ensures.value r.type_inv c.if-d-gt9.true))
 
 pub returns-then-n-gt429496729 : goal.returns-then-n-gt429496729

@@ -3,5 +3,6 @@ use Rattle.fast_path.proofs.Answers.{found-reading}
 use Rattle.fast_path.proofs.reader.read.Goals as goal
 
 pub returns-in-Found : goal.returns-in-Found
-returns-in-Found c = let h = rw c.in-Found.is at c.walk_string.ensures in
+returns-in-Found c =
+    let h = rw c.in-Found.is at c.walk_string.ensures in
     found-reading _ _ _ _ h

@@ -8,7 +8,8 @@ use Rattle.grammar.proofs.ItemPlaces.{place-past, place_bare, place_valued}
 use Rattle.grammar.proofs.item_places.item_place.Goals as goal
 
 pub returns-then-params-at : goal.returns-then-params-at
-returns-then-params-at c = let a = c.args in
+returns-then-params-at c =
+    let a = c.args in
     place-past a.params.now a.at c.if-params-at.true
 
 pub slice_bounds-next_at-end : goal.slice_bounds-next_at-end
@@ -18,9 +19,11 @@ slice_bounds-next_at-end c =
     omega (arith, within)
 
 pub returns-then-end-at : goal.returns-then-end-at
-returns-then-end-at c = let a = c.args in
+returns-then-end-at c =
+    let a = c.args in
     place_bare a.params.now a.at c.if-params-at.false c.next_at-end.result c.next_at-end.ensures c.next_at-len.result c.next_at-len.ensures c.if-end-at.true
 
 pub returns : goal.returns
-returns c = let a = c.args in
+returns c =
+    let a = c.args in
     place_valued a.params.now a.at c.if-params-at.false c.next_at-end.result c.next_at-end.ensures c.next_at-len.result c.next_at-len.ensures c.if-end-at.false

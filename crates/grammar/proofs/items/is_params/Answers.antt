@@ -10,11 +10,13 @@ use Rattle.grammar.proofs.ItemPlaces.{items-past, next_after, fine_full, fine_ba
 use Rattle.grammar.proofs.items.is_params.Goals as goal
 
 pub loop-at-init : goal.loop-at-init
-loop-at-init c = let s = c.args.params.now in
+loop-at-init c =
+    let s = c.args.params.now in
     (omega arith, fine_start s ∙ ap (fine 0) (items_start s))
 
 pub returns-then-n-eq-MOST_ITEMS : goal.returns-then-n-eq-MOST_ITEMS
-returns-then-n-eq-MOST_ITEMS c = let l = c.loop-at in
+returns-then-n-eq-MOST_ITEMS c =
+    let l = c.loop-at in
     let s = c.args.params.now in
     sym (l.invariant.1 ∙ fine_full s l.at c.loop-at-test.true (item_place s l.at) refl l.n c.if-n-eq-MOST_ITEMS.true)
 
@@ -27,7 +29,8 @@ returns-then-not-is_item c =
     (sym judged ∙ c.if-not-is_item.true))
 
 pub loop-at-smaller : goal.loop-at-smaller
-loop-at-smaller c = let h = c.loop-at-test.true in
+loop-at-smaller c =
+    let h = c.loop-at-test.true in
     let e = ap (λ (w : ItemPlace). w.next) c.item_place-item.ensures in
     omega (arith, next_after c.args.params.now c.loop-at.at h)
 
@@ -42,5 +45,6 @@ loop-at-preserved c =
     )
 
 pub returns : goal.returns
-returns c = let l = c.loop-at in
+returns c =
+    let l = c.loop-at in
     sym (l.invariant.1 ∙ ap (fine l.n) (items-past c.args.params.now l.at c.loop-at-test.false) ∙ fine_end l.n l.invariant.0)

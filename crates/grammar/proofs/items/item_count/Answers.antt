@@ -27,5 +27,6 @@ loop-at-preserved c =
     (omega (arith, c.next_at-end.ensures), omega (arith, bound), omega arith)
 
 pub returns : goal.returns
-returns c = let e = ap (λ (ps : List (List ℕ)). length (map (cut 61) ps)) (from_past 44 c.args.params.now c.loop-at.at c.loop-at-test.false) in
+returns c =
+    let e = ap (λ (ps : List (List ℕ)). length (map (cut 61) ps)) (from_past 44 c.args.params.now c.loop-at.at c.loop-at-test.false) in
     omega arith

@@ -11,6 +11,7 @@ pub slice_bounds-result-end : goal.slice_bounds-result-end
 slice_bounds-result-end c = omega (arith, c.next_at-end.ensures, find-le 61 c.args.item.now)
 
 pub returns : goal.returns
-returns c = let s = c.args.item.now in
+returns c =
+    let s = c.args.item.now in
     let n : c.next_at-end.result - 0 ≡ find 61 s = omega (arith, c.next_at-end.ensures) in
     rw (n, cut_before 61 s)

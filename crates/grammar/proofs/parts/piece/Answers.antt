@@ -7,7 +7,8 @@ use Rattle.grammar.proofs.Reading.{layout_part}
 use Rattle.grammar.proofs.parts.piece.Goals as goal
 
 pub returns : goal.returns
-returns c = let a = c.args in
+returns c =
+    let a = c.args in
     c.part.ensures
     ∙ ap (part_at a.s.now) (c.span_of.ensures ∙ ap (λ (l : Layout). span_of l.places a.which) c.read-layout.ensures)
     ∙ layout_part a.s.now a.which

@@ -5,11 +5,13 @@ use Rattle.peers.proofs.Accepted.{at_most_one, accepted_step, accepted_end}
 use Rattle.peers.proofs.judging.peer_judge_all.Goals as goal
 
 pub slice_bounds-judge-end : goal.slice_bounds-judge-end
-slice_bounds-judge-end c = let s = c.args.text.now in
+slice_bounds-judge-end c =
+    let s = c.args.text.now in
     omega (arith, c.next_at-end.ensures, find_from_le 10 s c.loop-place.place (omega (arith, c.loop-place-test.true)))
 
 pub loop-place-preserved : goal.loop-place-preserved
-loop-place-preserved c = let s = c.args.text.now in
+loop-place-preserved c =
+    let s = c.args.text.now in
     let q = accepted_step s c.loop-place.place c.next_at-end.result c.judge-answer.result.number c.loop-place-test.true c.next_at-end.ensures (λ i. (c.judge-answer.ensures i).number) in
     let e = c.count_in-count.ensures in (
       omega (arith, at_most_one c.judge-answer.result.number, c.loop-place.invariant.0, c.next_at-end.ensures),

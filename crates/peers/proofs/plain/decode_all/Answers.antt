@@ -8,7 +8,8 @@ use Rattle.peers.proofs.PlainLaws.{completed_decode, next_step}
 use Rattle.peers.proofs.plain.decode_all.Goals as goal
 
 pub loop-i-init : goal.loop-i-init
-loop-i-init c = let a = c.args in
+loop-i-init c =
+    let a = c.args in
     (omega arith, rw (completed_decode a.text.now 0) (partly_start (decode a.text.now) a.out.now))
 
 pub store_next-o-requires-clause-prior_bound : goal.store_next-o-requires-clause-prior_bound

@@ -5,5 +5,6 @@ use Rattle.decimal.proofs.NumeralLaws.{digits_limited}
 use Rattle.profile.proofs.number_field.written.Goals as goal
 
 pub overflow_cast-result : goal.overflow_cast-result
-overflow_cast-result c = let b = digits_limited _ _ _ _ (sym c.read_within.ensures ∙ c.in-Value.is) in
+overflow_cast-result c =
+    let b = digits_limited _ _ _ _ (sym c.read_within.ensures ∙ c.in-Value.is) in
     omega arith

@@ -8,7 +8,8 @@ use Rattle.profile.proofs.ValueLaws.{step_past, step_to, step_not}
 use Rattle.profile.proofs.values.take_value.Goals as goal
 
 pub returns-then-params-at : goal.returns-then-params-at
-returns-then-params-at c = let a = c.args in
+returns-then-params-at c =
+    let a = c.args in
     step_past a.params.now a.name.now a.at c.if-params-at.true
 
 pub returns-then-same_text : goal.returns-then-same_text

@@ -7,5 +7,6 @@ use Rattle.profile.proofs.writer.short_fields.Goals as goal
 
 pub returns : goal.returns
 unfolding short_fields
-returns c = let id = c.args.id in
+returns c =
+    let id = c.args.id in
     ap {B = NumberFields} (λ (r : Profile). record { id = id; version = r.defaults.version; m = r.defaults.m; t = r.defaults.t; p = r.defaults.p }) c.column_of-column.ensures.0

@@ -8,6 +8,7 @@ use Rattle.profile.proofs.Shorts.{short_by}
 use Rattle.profile.proofs.writer.write_short.Goals as goal
 
 pub returns : goal.returns
-returns c = let a = c.args in
+returns c =
+    let a = c.args in
     ◌∙◌ {b = writing edition_two (field_set c.short_fields.result [] [] a.salt.now a.output.now) a.buf.now a.at}
     c.write.ensures (short_by a.id a.salt.now a.output.now a.buf.now a.at c.short_fields.result c.short_fields.ensures)

@@ -7,7 +7,8 @@ use Rattle.table.proofs.ColumnLaws.{id_from, id_next, id_none}
 use Rattle.table.proofs.ids.position.Goals as goal
 
 pub loop-index-preserved : goal.loop-index-preserved
-loop-index-preserved c = let name = c.args.name.now in
+loop-index-preserved c =
+    let name = c.args.name.now in
     let j = c.loop-index.index - 1 in
     let k : suc j ≡ c.loop-index.index = omega arith in
     let n : suc j ≡ c.loop-index.index + 1 - 1 = omega arith in (
@@ -17,6 +18,7 @@ loop-index-preserved c = let name = c.args.name.now in
     )
 
 pub returns : goal.returns
-returns c = let name = c.args.name.now in
+returns c =
+    let name = c.args.name.now in
     let k : c.loop-index.index - 1 ≡ 5 = omega arith in
     sym (c.loop-index.invariant.2 ∙ ap (λ (i : ℕ). id_from i name) k ∙ id_none name)

@@ -15,7 +15,8 @@ returns-then-index-ge-NAME_COUNT c = sym (rw (le-ltb c.args.index 6 c.if-index-g
 
 pub returns-then-names-at : goal.returns-then-names-at
 unfolding name_in part_at
-returns-then-names-at c = let a = c.args in
+returns-then-names-at c =
+    let a = c.args in
     let names = a.names.now in
     let at = a.index * 9 in
     let h : length names ≤ at = c.if-names-at.true in
@@ -23,5 +24,6 @@ returns-then-names-at c = let a = c.args in
 
 pub returns : goal.returns
 unfolding name_in
-returns c = let a = c.args in
+returns c =
+    let a = c.args in
     c.part.ensures ∙ ap (λ (n : ℕ). part_at a.names.now (span (a.index * 9 + 1) n)) c.wide.ensures ∙ sym (rw (lt-ltb a.index 6 (omega arith)))

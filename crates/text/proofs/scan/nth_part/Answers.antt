@@ -19,7 +19,8 @@ slice_bounds-result-end c =
     omega (arith, bound)
 
 pub returns-then-k-eq0 : goal.returns-then-k-eq0
-returns-then-k-eq0 c = let a = c.args in
+returns-then-k-eq0 c =
+    let a = c.args in
     sym (c.loop-at.invariant
     ∙ rw (c.if-k-eq0.true, from_to a.separator a.s.now c.loop-at.at c.loop-at-test.true c.next_at-end.result c.next_at-end.ensures))
 
@@ -30,7 +31,8 @@ overflow_add-at c =
     omega (arith, bound)
 
 pub loop-at-preserved : goal.loop-at-preserved
-loop-at-preserved c = let l = c.loop-at in
+loop-at-preserved c =
+    let l = c.loop-at in
     let d = c.args.separator in
     let s = c.args.s.now in
     l.invariant
@@ -38,6 +40,7 @@ loop-at-preserved c = let l = c.loop-at in
     ∙ get_d_pred (take (c.next_at-end.result - l.at) (drop l.at s)) (parts_from d s (c.next_at-end.result + 1)) l.k (omega arith)
 
 pub returns : goal.returns
-returns c = let l = c.loop-at in
+returns c =
+    let l = c.loop-at in
     let a = c.args in
     sym (l.invariant ∙ ap (λ (ps : List (List ℕ)). get_or ps l.k []) (from_past a.separator a.s.now l.at c.loop-at-test.false))
