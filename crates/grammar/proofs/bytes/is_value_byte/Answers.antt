@@ -9,7 +9,7 @@ use Rattle.grammar.proofs.bytes.is_value_byte.Goals as goal
 
 pub returns-in_default : goal.returns-in_default
 unfolding is_value_byte
-returns-in_default c = sym (on is_value_byte false (43 ∷ []) 0 45 tt c.args.c (omega arith) (omega arith) c.in_default-1.rest.1)
+returns-in_default c = sym (on is_value_byte false (43 ∷ []) 0 45 tt c.args.c (omega arith) (omega arith) (λ e. omega arith))
 
 pub returns-in_default-2 : goal.returns-in_default-2
 unfolding is_value_byte
@@ -25,7 +25,7 @@ returns-in_default-4 c = sym (on is_value_byte false [] 123 133 tt c.args.c (ome
 
 pub returns-in-97-to-122 : goal.returns-in-97-to-122
 unfolding is_value_byte
-returns-in-97-to-122 c = sym (keyed is_value_byte true (43 ∷ []) tt c.args.c c.in-97-to-122.keys1)
+returns-in-97-to-122 c = sym (keyed is_value_byte true (43 ∷ []) tt c.args.c (omega arith))
 
 pub returns-in-97-to-122-2 : goal.returns-in-97-to-122-2
 unfolding is_value_byte

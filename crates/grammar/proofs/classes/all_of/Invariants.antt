@@ -1,11 +1,8 @@
 -- `grammar::classes::all_of` meets its contract. Assumes nothing.
 use Prim.Native.Nat.{◌-◌}
-use mathlib.Core.Path.{◌≡◌, sym, ◌∙◌}
-use borrow.Author.Rules.{rules}
-use borrow.Author.Tests.{not-true, not-false}
+use mathlib.Core.Path.{◌≡◌}
 use lib.ListN.{length, drop}
 use Rattle.text.specs.Text.{all}
-use Rattle.text.proofs.Scanning.{all_past, all-false, all_step}
 use Rattle.grammar.specs.Bytes.{in_class}
 use Rattle.grammar.proofs.classes.all_of.Given as goal
 

@@ -1,7 +1,6 @@
 -- `grammar::classes::is_text` meets its contract. Assumes nothing.
 use mathlib.Core.Bool.{and-false}
 use borrow.Author.Tests.{le-leb, lt-leb}
-use borrow.Author.Rules.{rules}
 use Rattle.grammar.specs.Bytes.{is_text}
 use Rattle.grammar.proofs.classes.is_text.Goals as goal
 

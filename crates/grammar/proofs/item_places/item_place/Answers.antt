@@ -1,7 +1,6 @@
 -- `grammar::item_places::item_place` meets its contract. Assumes nothing.
 use Prim.Native.Nat.{◌≤◌}
 use native.Mathlib.Omega.{arith}
-use borrow.Author.Rules.{rules}
 use lib.ListN.{length}
 use Rattle.text.proofs.Scanning.{find_from_le}
 use Rattle.grammar.specs.Bytes.{comma}

@@ -1,12 +1,7 @@
 -- `grammar::items::is_params` meets its contract. Assumes nothing.
-use Prim.Native.Nat.{◌+◌, ◌-◌, ◌≤◌}
 use mathlib.Core.Path.{◌≡◌, refl, ◌∙◌, sym, ap}
 use native.Mathlib.Omega.{arith}
-use borrow.Author.Tests.{not-true, not-false}
-use lib.ListN.{length}
-use Rattle.grammar.specs.Limits.{most_items}
-use Rattle.grammar.specs.Items.{items_from}
-use Rattle.grammar.specs.Rules.{is_item, is_params}
+use Rattle.grammar.specs.Rules.{is_item}
 use Rattle.grammar.specs.Parts.{part_at}
 use Rattle.grammar.specs.ItemPlaces.{item_place}
 use Rattle.grammar.specs.declared.item_places.ItemPlace.{ItemPlace}
@@ -39,8 +34,7 @@ loop-at-smaller c = let h = c.loop-at-test.true in
 pub loop-at-preserved : goal.loop-at-preserved
 loop-at-preserved c =
     let judged : let s = c.args.params.now in c.is_item.result ≡ is_item (part_at s c.item_place-item.result.name, part_at s c.item_place-item.result.value) = c.is_item.ensures ∙ (λ i. is_item (c.part.ensures i, c.part-in-loop-at.ensures i)) in
-    let l = c.loop-at in
-    (
+    let l = c.loop-at in (
       omega arith,
       l.invariant.1
           ∙ fine_on c.args.params.now l.at c.loop-at-test.true c.item_place-item.result c.item_place-item.ensures l.n

@@ -1,13 +1,13 @@
 -- `grammar::items::item_count` meets its contract. Assumes nothing.
-use Prim.Native.Nat.{ℕ, ◌+◌, ◌-◌, ◌≤◌}
-use mathlib.Core.Path.{◌≡◌, ap}
+use Prim.Native.Nat.{ℕ, ◌≤◌}
+use mathlib.Core.Path.{ap}
 use mathlib.Core.List.{List, map}
 use native.Mathlib.Omega.{arith}
 use lib.ListN.{length}
 use Rattle.text.specs.Text.{cut}
 use Rattle.text.proofs.Scanning.{find_from_le}
 use Rattle.text.proofs.Splitting.{from_past}
-use Rattle.grammar.specs.Items.{Item, items, items_from}
+use Rattle.grammar.specs.Items.{Item}
 use Rattle.grammar.proofs.ItemLaws.{items_start, items_to}
 use Rattle.grammar.proofs.items.item_count.Goals as goal
 

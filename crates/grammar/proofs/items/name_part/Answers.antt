@@ -2,7 +2,6 @@
 use Prim.Native.Nat.{◌-◌}
 use mathlib.Core.Path.{◌≡◌}
 use native.Mathlib.Omega.{arith}
-use borrow.Author.Rules.{rules}
 use Rattle.text.specs.Text.{find}
 use Rattle.text.proofs.Scanning.{find-le}
 use Rattle.text.proofs.Splitting.{cut_before}

@@ -1,5 +1,4 @@
 -- `grammar::parts::item_name` meets its contract. Assumes nothing.
-use borrow.Author.Rules.{rules}
 use mathlib.Core.Path.{◌∙◌, ap}
 use Rattle.grammar.specs.Items.{Item}
 use Rattle.grammar.proofs.Reading.{item_is}

@@ -1,5 +1,4 @@
 -- `grammar::parts::piece` meets its contract. Assumes nothing.
-use borrow.Author.Rules.{rules}
 use mathlib.Core.Path.{◌∙◌, ap}
 use Rattle.grammar.specs.Layout.{span_of}
 use Rattle.grammar.specs.Parts.{part_at}
@@ -10,5 +9,5 @@ use Rattle.grammar.proofs.parts.piece.Goals as goal
 pub returns : goal.returns
 returns c = let a = c.args in
     c.part.ensures
-    ∙ ap (part_at a.s.now) (c.Span-of.ensures ∙ ap (λ (l : Layout). span_of l.places a.which) c.read-layout.ensures)
+    ∙ ap (part_at a.s.now) (c.span_of.ensures ∙ ap (λ (l : Layout). span_of l.places a.which) c.read-layout.ensures)
     ∙ layout_part a.s.now a.which

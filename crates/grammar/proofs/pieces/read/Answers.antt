@@ -1,5 +1,4 @@
 -- `grammar::pieces::read` meets its contract. Assumes nothing.
-use borrow.Author.Rules.{rules}
 use mathlib.Core.Path.{◌≡◌, sym, ◌∙◌, ap}
 use mathlib.Core.Bool.{true, false}
 use native.Mathlib.Omega.{arith}
@@ -30,7 +29,7 @@ pub returns-then-number-ne0 : goal.returns-then-number-ne0
 returns-then-number-ne0 c =
     let sound : bad_string c.args.s.now ≡ false = sym c.bad_string.ensures ∙ c.if-bad_string.false in
     let s = c.args.s.now in
-    c.refused-then-number-ne0.ensures ∙ sym (layout-refused s c.number_of_lem.result (number_pieces s sound ∙ sym c.number_of_lem.ensures) c.if-number-ne0.true)
+    c.refused-then-number-ne0.ensures ∙ sym (layout-refused s c.number_of-number.result (number_pieces s sound ∙ sym c.number_of-number.ensures) c.if-number-ne0.true)
 
 pub items_of-items-requires : goal.items_of-items-requires
 items_of-items-requires c =
@@ -44,7 +43,7 @@ returns c =
     let sound : bad_string c.args.s.now ≡ false = sym c.bad_string.ensures ∙ c.if-bad_string.false in
     let placed : c.sort-sorted.result.places ≡ places_of (pieces c.args.s.now) = ap (λ (x : Sorted). x.places) c.sort-sorted.ensures in
     let s = c.args.s.now in
-    let z : grammar_number s ≡ 0 = number_pieces s sound ∙ sym c.number_of_lem.ensures ∙ c.if-number-ne0.false in
+    let z : grammar_number s ≡ 0 = number_pieces s sound ∙ sym c.number_of-number.ensures ∙ c.if-number-ne0.false in
     let p = placed in
     let k = c.items_of-items.ensures in
     ◌∙◌ {b = accepted_layout (pieces s)} (λ i. record { number = 0; places = p i; items = k i }) (sym (layout-accepted s z))

@@ -1,5 +1,4 @@
 -- `grammar::rules::bad_string` meets its contract. Assumes nothing.
-use borrow.Author.Rules.{rules}
 use mathlib.Core.Path.{sym}
 use native.Mathlib.Omega.{arith}
 use Rattle.grammar.proofs.Reading.{bad_string-none, bad_string_long, bad_string-first}

@@ -1,5 +1,4 @@
 -- `grammar::rules::is_output` meets its contract. Assumes nothing.
-use borrow.Author.Rules.{rules}
 use mathlib.Core.Bool.{and-false}
 use borrow.Author.Tests.{le-leb, lt-leb}
 use Rattle.grammar.specs.Rules.{is_output}

@@ -1,6 +1,5 @@
 -- `grammar::rules::is_version` meets its contract. Assumes nothing.
 use mathlib.Core.Path.{◌≡◌, sym, ◌∙◌, ap}
-use borrow.Author.Rules.{rules}
 use lib.Dec.{eqb}
 use Rattle.decimal.specs.Numerals.{limited_number}
 use Rattle.decimal.specs.declared.reader.Limited.{Limited}

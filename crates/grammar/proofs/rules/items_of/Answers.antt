@@ -1,11 +1,10 @@
 -- `grammar::rules::items_of` meets its contract. Assumes nothing.
-use borrow.Author.Rules.{rules}
 use mathlib.Core.Path.{sym, ◌∙◌, ap}
 use Prim.Native.Nat.{ℕ}
 use mathlib.Core.List.{List}
 use lib.ListN.{length}
 use Rattle.grammar.specs.Items.{items}
-use Rattle.grammar.proofs.RuleLaws.{items_absent, items_present}
+use Rattle.grammar.proofs.RuleLaws.{items_present}
 use Rattle.grammar.proofs.rules.items_of.Goals as goal
 
 pub returns : goal.returns

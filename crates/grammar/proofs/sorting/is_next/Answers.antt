@@ -1,7 +1,6 @@
 -- `grammar::sorting::is_next` meets its contract. Assumes nothing.
 use mathlib.Core.Path.{sym}
 use native.Mathlib.Nat.{zero-add}
-use borrow.Author.Rules.{rules}
 use Rattle.text.proofs.Splitting.{has-find}
 use Rattle.grammar.proofs.sorting.is_next.Goals as goal
 

@@ -1,5 +1,4 @@
 -- `grammar::sorting::sort` meets its contract. Assumes nothing.
-use borrow.Author.Rules.{rules}
 use Rattle.grammar.proofs.SortLaws.{sorts}
 use Rattle.grammar.proofs.sorting.sort.Goals as goal
 

@@ -1,7 +1,6 @@
 -- `grammar::sorting::take_piece` meets its contract. Assumes nothing.
 use mathlib.Core.Path.{◌∙◌, sym}
 use native.Mathlib.Omega.{arith}
-use borrow.Author.Rules.{rules}
 use Rattle.text.proofs.Scanning.{find_from_le}
 use Rattle.grammar.proofs.SortLaws.{stepped_past, stepped_to, stepped_not}
 use Rattle.grammar.proofs.sorting.take_piece.Goals as goal

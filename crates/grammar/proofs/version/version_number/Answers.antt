@@ -1,6 +1,5 @@
 -- `grammar::version::version_number` meets its contract. Assumes nothing.
 use mathlib.Core.Path.{sym, ◌∙◌, ap}
-use borrow.Author.Rules.{rules}
 use Rattle.text.proofs.Writing.{tail_part}
 use Rattle.decimal.specs.Numerals.{limited_reading}
 use Rattle.grammar.specs.Limits.{largest_version}
