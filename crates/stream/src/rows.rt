@@ -3,7 +3,7 @@ ghost use Rattle.std.specs.Prelude.{◌≤◌, ◌≡◌, false, length};
 
 use accounts::limits::MOST_KEPT;
 use accounts::listing::{Listed, end, next};
-use libc::STDOUT_FILENO;
+use std::io::Write;
 use text::order::min;
 
 // The bytes kept of the unfinished line, its number, the bytes of output that wait, and whether every write so far succeeded.
@@ -24,21 +24,27 @@ fn waiting(out: &[u8], used: usize, count: usize) -> usize
 }
 
 // Writes what waits; false where that fails.
-fn flush(out: &[u8], used: usize) -> bool {
+fn flush<W: Write>(writer: &mut W, out: &[u8], used: usize) -> bool {
     let n = min(used, out.len());
-    io::write_all(STDOUT_FILENO, &out[0..n])
+    writer.write_all(&out[0..n]).is_ok()
 }
 
 // Writes what waits, for a row that doesn't fit behind it; false also where nothing waits: the row fits no emptier buffer.
-fn make_room(out: &[u8], used: usize) -> bool {
+fn make_room<W: Write>(writer: &mut W, out: &[u8], used: usize) -> bool {
     if used == 0 {
         return false;
     }
-    flush(out, used)
+    flush(writer, out, used)
 }
 
 // take_part, where every write so far succeeded.
-fn take_rows(array: &mut [u8; MOST_KEPT], out: &mut [u8], part: &[u8], begun: State) -> State
+fn take_rows<W: Write>(
+    writer: &mut W,
+    array: &mut [u8; MOST_KEPT],
+    out: &mut [u8],
+    part: &[u8],
+    begun: State,
+) -> State
     ensures { result.used ≤ length out.old }
 {
     let mut kept = begun.kept;
@@ -67,7 +73,7 @@ fn take_rows(array: &mut [u8; MOST_KEPT], out: &mut [u8], part: &[u8], begun: St
                 };
             }
             Listed::NoRoom => {
-                if !make_room(&out[..], used) {
+                if !make_room(writer, &out[..], used) {
                     return State {
                         kept,
                         line,
@@ -90,11 +96,17 @@ fn take_rows(array: &mut [u8; MOST_KEPT], out: &mut [u8], part: &[u8], begun: St
 
 // The rows of the lines that end in a part; when no more fit, those that wait are written. After a failed write nothing more is written, and
 // so where a row doesn't fit the whole buffer: 36 bytes are enough.
-pub fn take_part(array: &mut [u8; MOST_KEPT], out: &mut [u8], part: &[u8], begun: State) -> State
+pub fn take_part<W: Write>(
+    writer: &mut W,
+    array: &mut [u8; MOST_KEPT],
+    out: &mut [u8],
+    part: &[u8],
+    begun: State,
+) -> State
     ensures { result.used ≤ length out.old }
 {
     if begun.open {
-        return take_rows(array, out, part, begun);
+        return take_rows(writer, array, out, part, begun);
     }
     State {
         kept: begun.kept,
@@ -105,17 +117,22 @@ pub fn take_part(array: &mut [u8; MOST_KEPT], out: &mut [u8], part: &[u8], begun
 }
 
 // What waits, without the unfinished line; whether every write succeeded.
-pub fn flush_rows(out: &[u8], state: State) -> bool
+pub fn flush_rows<W: Write>(writer: &mut W, out: &[u8], state: State) -> bool
     ensures { state.open ≡ false → result ≡ false }
 {
     if !state.open {
         return false;
     }
-    flush(out, state.used)
+    flush(writer, out, state.used)
 }
 
 // The row of the last line, and what waits; whether every write succeeded. A row that doesn't fit goes into the emptied buffer.
-pub fn finish(array: &[u8; MOST_KEPT], out: &mut [u8], state: State) -> bool
+pub fn finish<W: Write>(
+    writer: &mut W,
+    array: &[u8; MOST_KEPT],
+    out: &mut [u8],
+    state: State,
+) -> bool
     ensures { length out.new ≡ length out.old }
 {
     if !state.open {
@@ -125,9 +142,9 @@ pub fn finish(array: &[u8; MOST_KEPT], out: &mut [u8], state: State) -> bool
     let w = end(array, state.kept, state.line, out, used);
     if w.number == 0 {
         let count = w.count;
-        return flush(&out[..], waiting(&out[..], used, count.0));
+        return flush(writer, &out[..], waiting(&out[..], used, count.0));
     }
-    if !make_room(&out[..], used) {
+    if !make_room(writer, &out[..], used) {
         return false;
     }
     let again = end(array, state.kept, state.line, out, 0);
@@ -135,5 +152,5 @@ pub fn finish(array: &[u8; MOST_KEPT], out: &mut [u8], state: State) -> bool
         return false;
     }
     let count = again.count;
-    flush(&out[..], waiting(&out[..], 0, count.0))
+    flush(writer, &out[..], waiting(&out[..], 0, count.0))
 }
