@@ -27,20 +27,7 @@ fn number(line: &[u8], index: usize) -> usize {
 
 // How many places hold what they held.
 fn kept(slice: &[u8]) -> u64 {
-    let mut count: u64 = 0;
-    let mut i: usize = 0;
-    while i < slice.len() {
-        if slice[i] == UNWRITTEN {
-            count = next(count);
-        }
-        i += 1;
-    }
-    count
-}
-
-// One more, up to the largest number.
-fn next(n: u64) -> u64 {
-    if n < u64::MAX { n + 1 } else { n }
+    slice.iter().filter(|b| **b == UNWRITTEN).count() as u64
 }
 
 fn show_batch<W: Write>(out: &mut W, batch: Batch, slice: &[u8]) {

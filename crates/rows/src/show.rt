@@ -41,10 +41,8 @@ fn show_byte<W: Write>(out: &mut W, b: u8) {
 // The bytes as hex digits.
 pub fn show_hex<W: Write>(out: &mut W, bytes: &[u8]) {
     show(out, b"\t");
-    let mut i: usize = 0;
-    while i < bytes.len() {
-        show_byte(out, bytes[i]);
-        i += 1;
+    for b in bytes {
+        show_byte(out, *b);
     }
 }
 
@@ -55,13 +53,11 @@ fn show_decimal<W: Write>(out: &mut W, n: u8) {
 // Numbers, parted by commas.
 pub fn show_numbers<W: Write>(out: &mut W, numbers: &[u8]) {
     show(out, b"\t");
-    let mut i: usize = 0;
-    while i < numbers.len() {
+    for (i, n) in numbers.iter().enumerate() {
         if 0 < i {
             show(out, b",");
         }
-        show_decimal(out, numbers[i]);
-        i += 1;
+        show_decimal(out, *n);
     }
 }
 
