@@ -39,8 +39,7 @@ fn take_all<W: Write>(
     let mut state = begun;
     let mut at: usize = 0;
     let mut len: usize = 0;
-    let mut turns = u64::MAX;
-    while turns > 0 {
+    for _ in 0..u64::MAX {
         if text.len() <= at {
             return state;
         }
@@ -56,7 +55,6 @@ fn take_all<W: Write>(
         state = after;
         at = to;
         len = next_len(len);
-        turns -= 1;
     }
     state
 }

@@ -56,8 +56,7 @@ fn take_all<R: Read, W: Write>(
     first: Got,
 ) -> Got {
     let mut got = first;
-    let mut turns = u64::MAX;
-    while turns > 0 {
+    for _ in 0..u64::MAX {
         let input = got.input;
         let Input::More = input else {
             return got;
@@ -67,7 +66,6 @@ fn take_all<R: Read, W: Write>(
             return got;
         }
         got = take_some(reader, writer, array, out, buf, state);
-        turns -= 1;
     }
     // No input has so many parts; the rest of one that had would not be listed.
     let state = got.state;

@@ -51,8 +51,7 @@ fn take_rows<W: Write>(
     let mut line = begun.line;
     let mut used = begun.used;
     let mut from: usize = 0;
-    let mut turns = u64::MAX;
-    while turns > 0 {
+    for _ in 0..u64::MAX {
         match next(array, kept, line, part, from, out, used) {
             Listed::Row {
                 place,
@@ -84,7 +83,6 @@ fn take_rows<W: Write>(
                 used = 0;
             }
         }
-        turns -= 1;
     }
     State {
         kept,
