@@ -1,7 +1,7 @@
 -- What the writer's steps need beyond texts put one after the other: the `$` of the parameters, byte strings by their lengths, and the
 -- whole string.
 -- Assumes nothing.
-use Prim.Native.Nat.{ℕ, ◌-◌, ◌≤◌}
+use Prim.Native.Nat.{ℕ, ◌≤◌}
 use mathlib.Core.Bool.{true, false, not, ◌&&◌, Bool}
 use mathlib.Core.List.{List, [], ◌∷◌}
 use mathlib.Core.Option.{some}
