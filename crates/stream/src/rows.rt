@@ -1,5 +1,6 @@
 // Rows of the listing, part by part of the input.
-ghost use Rattle.std.specs.Prelude.{◌≤◌, ◌≡◌, false, length};
+ghost use Rattle.std.specs.Prelude.{◌≤◌, ◌≡◌, true, false, length, take};
+ghost use Rattle.std.specs.Io.KnownBytes.{Appends};
 
 use accounts::limits::MOST_KEPT;
 use accounts::listing::{Listed, end, next};
@@ -24,7 +25,9 @@ fn waiting(out: &[u8], used: usize, count: usize) -> usize
 }
 
 // Writes what waits; false where that fails.
-fn flush<W: Write>(writer: &mut W, out: &[u8], used: usize) -> bool {
+fn flush<W: Write>(writer: &mut W, out: &[u8], used: usize) -> bool
+    ensures { result ≡ true → Appends (W.contents writer.old) (W.contents writer.new) (take used out.now) }
+{
     let n = min(used, out.len());
     writer.write_all(&out[0..n]).is_ok()
 }
@@ -101,7 +104,9 @@ pub fn take_part<W: Write>(
     part: &[u8],
     begun: State,
 ) -> State
-    ensures { result.used ≤ length out.old }
+    ensures waits { result.used ≤ length out.old }
+    ensures stays_closed { begun.«open» ≡ false → result.«open» ≡ false }
+    ensures writes_no_more { begun.«open» ≡ false → writer.new ≡ writer.old }
 {
     if begun.open {
         return take_rows(writer, array, out, part, begun);
@@ -116,7 +121,9 @@ pub fn take_part<W: Write>(
 
 // What waits, without the unfinished line; whether every write succeeded.
 pub fn flush_rows<W: Write>(writer: &mut W, out: &[u8], state: State) -> bool
-    ensures { state.open ≡ false → result ≡ false }
+    ensures not_forgotten { state.«open» ≡ false → result ≡ false }
+    ensures writes_no_more { state.«open» ≡ false → writer.new ≡ writer.old }
+    ensures written { result ≡ true → Appends (W.contents writer.old) (W.contents writer.new) (take state.used out.now) }
 {
     if !state.open {
         return false;
@@ -131,7 +138,9 @@ pub fn finish<W: Write>(
     out: &mut [u8],
     state: State,
 ) -> bool
-    ensures { length out.new ≡ length out.old }
+    ensures size { length out.new ≡ length out.old }
+    ensures not_forgotten { state.«open» ≡ false → result ≡ false }
+    ensures writes_no_more { state.«open» ≡ false → writer.new ≡ writer.old }
 {
     if !state.open {
         return false;
