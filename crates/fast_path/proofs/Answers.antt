@@ -1,6 +1,6 @@
 -- The walk's fields as the entries' outcomes: what the reader gives, and all that a string carries.
 -- Assumes nothing.
-use Rattle.std.proofs.Common.{◌≡◌, ℕ, ◌+◌, ◌-◌, ◌<◌, ◌≤◌, Bool, true, false, cond, eqb, List, [], ◌∷◌, ◌++◌, length, take, drop, sym, refl, ap, ◌∙◌, arith, length-append, ne_eqb, eqb-true}
+use Rattle.std.proofs.Common.{◌≡◌, ℕ, ◌-◌, ◌<◌, ◌≤◌, Bool, true, false, cond, eqb, List, [], ◌∷◌, ◌++◌, length, take, drop, sym, refl, ap, ◌∙◌, arith, length-append, ne_eqb, eqb-true}
 use mathlib.Core.Option.{Option, none, some}
 use lib.Seq.{take-append_seam}
 use Rattle.text.specs.Place.{Outcome, outcome, refused, over, put, put_after}

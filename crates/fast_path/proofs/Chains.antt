@@ -1,6 +1,6 @@
 -- The steps of the walk, one after the other: what each leaf finds makes up what the whole finds.
 -- Assumes nothing.
-use Rattle.std.proofs.Common.{◌≡◌, ℕ, zero, suc, ◌+◌, ◌-◌, ◌<◌, ◌≤◌, true, false, cond, not, List, [], ◌∷◌, length, get_or, take, drop, refl, ap, ◌∙◌, arith, drop-drop, ne_eqb}
+use Rattle.std.proofs.Common.{◌≡◌, ℕ, zero, suc, ◌+◌, ◌-◌, ◌<◌, true, false, cond, not, List, [], ◌∷◌, length, get_or, take, drop, refl, ap, ◌∙◌, arith, drop-drop, ne_eqb}
 use mathlib.Core.Option.{Option, none, some}
 use Rattle.text.specs.Text.{text, find, next_at, starts_with, and_then}
 use Rattle.text.proofs.Tests.{is_true, is_false}

@@ -1,18 +1,17 @@
 -- What the walk takes stands there: each text that is found is the one that the writer puts for it, and the rest stands behind it.
 -- Assumes nothing.
-use Rattle.std.proofs.Common.{◌≡◌, ℕ, suc, true, false, not, ◌&&◌, leb, List, [], ◌∷◌, ◌++◌, length, take, drop, sym, refl, ap, ◌∙◌, subst, arith, take-append-drop, eq-eqb}
+use Rattle.std.proofs.Common.{◌≡◌, ℕ, suc, true, not, ◌&&◌, leb, List, [], ◌∷◌, ◌++◌, length, drop, sym, refl, ap, ◌∙◌, arith, eq-eqb}
 use mathlib.Core.Bool.{false≢true}
 use mathlib.Core.Option.{Option, some}
-use Rattle.text.specs.Text.{text, within, all, empty, is_byte, find, run, starts_with, and_then, violates}
-use Rattle.text.proofs.Tests.{both, not_of_true, is_false, to_within}
+use Rattle.text.specs.Text.{text, within, all, empty, is_byte, run, starts_with, and_then}
+use Rattle.text.proofs.Tests.{both, is_false, to_within}
 use Rattle.text.proofs.Runs.{run_is}
-use Rattle.text.proofs.Starts.{starts_is, starts_behind}
+use Rattle.text.proofs.Starts.{starts_behind}
 use Rattle.text.proofs.Options.{Holds, holds_then, holds_if}
 use Rattle.b64.specs.B64.{in_alphabet, canonical, decode, encode}
 use Rattle.b64.proofs.B64Laws.{encode_decode, bytes_decode}
 use Rattle.decimal.specs.Decimal.{is_digit, is_unsigned, value, digits}
 use Rattle.decimal.proofs.DecimalLaws.{digits_value}
-use Rattle.grammar.specs.Bytes.{dollar}
 use Rattle.table.specs.Limits.{in_range, is_size, version_allowed, largest32, is_omitted}
 use Rattle.table.specs.declared.limits.NumberRule.{NumberRule}
 use Rattle.table.specs.declared.limits.NumberRule.TheVariants.{Required, Defaulted, Constant}

@@ -1,6 +1,6 @@
 -- What the writer puts is taken: each text is read back as what it is written for, and the rest is left.
 -- Assumes nothing.
-use Rattle.std.proofs.Common.{◌≡◌, ℕ, ◌≤◌, Bool, true, false, cond, eqb, leb, List, [], ◌∷◌, ◌++◌, length, refl, ap, ◌∙◌, ⊎_elim, arith, drop_at, eqb-true, le-leb, leb-true}
+use Rattle.std.proofs.Common.{◌≡◌, ℕ, ◌≤◌, Bool, true, false, cond, eqb, leb, List, [], ◌∷◌, ◌++◌, length, refl, ◌∙◌, ⊎_elim, arith, drop_at, eqb-true, le-leb, leb-true}
 use mathlib.Core.Option.{none, some}
 use Rattle.text.specs.Text.{text, within, all, empty, is_byte, run, starts_with, and_then}
 use Rattle.text.proofs.Tests.{both, from_within}
