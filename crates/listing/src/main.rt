@@ -85,7 +85,7 @@ fn write_rest<W: Write>(writer: &mut W, array: &[u8; MOST_KEPT], out: &mut [u8],
     }
 }
 
-// Says on standard error what failed: there is no exit status to say it by.
+// Says on standard error what failed; the exit status is 0 all the same.
 fn report<W: Write>(err: &mut W, input: Input, written: bool) {
     if let Input::Failed = input {
         let _ = err.write_all(
