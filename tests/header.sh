@@ -2,7 +2,7 @@
 # The C header: compiled as C and as C++ against the proved library, and texts lent whose end can't be read. It needs a C and a C++ compiler.
 set -e
 cd "$(dirname "$0")/.."
-rt staticlib phc
+tests/archive phc
 warnings="-Wall -Wextra -Wpedantic -Werror"
 # shellcheck disable=SC2086
 {

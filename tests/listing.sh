@@ -1,8 +1,9 @@
 #!/bin/sh
-# Runs the listing program (the argument, or target/bin/listing) on input that ends, on input that can't be read and on output that can't be
+# Runs the listing program (the argument, or crates/listing/out/listing, as the gate leaves it) on input that ends, on input that can't be read and on
+# output that can't be
 # written, and compares standard output, standard error and the exit status.
 set -e
-program=${1:-$(dirname "$0")/../target/bin/listing}
+program=${1:-$(dirname "$0")/../crates/listing/out/listing}
 work=$(mktemp -d)
 trap 'rm -rf "$work"' EXIT
 cases=0
