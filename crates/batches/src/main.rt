@@ -9,6 +9,7 @@ use rows::columns::{column, decimal};
 use rows::hex::decode_hex;
 use rows::input::{read_input, space, warn_if_full};
 use rows::show::{show, show_number, show_numbers};
+use std::io::Write;
 use text::lines::{after_line, line_at};
 use text::units::Bytes;
 
@@ -26,63 +27,54 @@ fn number(line: &[u8], index: usize) -> usize {
 
 // How many places hold what they held.
 fn kept(slice: &[u8]) -> u64 {
-    let mut count: u64 = 0;
-    let mut i: usize = 0;
-    while i < slice.len() {
-        if slice[i] == UNWRITTEN {
-            count = next(count);
-        }
-        i += 1;
-    }
-    count
+    slice.iter().filter(|b| **b == UNWRITTEN).count() as u64
 }
 
-// One more, up to the largest number.
-fn next(n: u64) -> u64 {
-    if n < u64::MAX { n + 1 } else { n }
-}
-
-fn show_batch(batch: Batch, slice: &[u8]) {
-    show_number(batch.number as u64);
-    show_number(batch.place as u64);
-    show_number(batch.count as u64);
-    show_numbers(front(slice, Bytes(batch.count)));
-    show_number(kept(slice));
+fn show_batch<W: Write>(out: &mut W, batch: Batch, slice: &[u8]) {
+    show_number(out, batch.number as u64);
+    show_number(out, batch.place as u64);
+    show_number(out, batch.count as u64);
+    show_numbers(out, front(slice, Bytes(batch.count)));
+    show_number(out, kept(slice));
 }
 
 // The row's batch, into a slice with room for so many answers, or for all of the array.
-fn judge_into(line: &[u8], text: &[u8], array: &mut [u8], slots: usize) {
+fn judge_into<W: Write>(out: &mut W, line: &[u8], text: &[u8], array: &mut [u8], slots: usize) {
     if slots < array.len() {
         let slice = &mut array[0..slots];
         let batch = judge_batch(text, number(line, 1), number(line, 2), slice);
-        show_batch(batch, slice);
+        show_batch(out, batch, slice);
         return;
     }
     let batch = judge_batch(text, number(line, 1), number(line, 2), array);
-    show_batch(batch, array);
+    show_batch(out, batch, array);
 }
 
-fn row(line: &[u8]) {
+fn row<W: Write>(out: &mut W, line: &[u8]) {
     let mut bytes = array();
     let mut slice = array();
     let count = decode_hex(column(line, 0), &mut bytes);
-    show(line);
-    judge_into(line, front(&bytes, count), &mut slice, number(line, 3));
-    show(b"\n");
+    show(out, line);
+    judge_into(out, line, front(&bytes, count), &mut slice, number(line, 3));
+    show(out, b"\n");
 }
 
-fn rows(text: &[u8]) {
+fn rows<W: Write>(out: &mut W, text: &[u8]) {
     let mut at: usize = 0;
     while at < text.len() {
-        row(line_at(text, at));
+        row(out, line_at(text, at));
         at = after_line(text, at);
     }
 }
 
-fn main() {
+fn main(rt: HostRuntime) {
+    let mut out = rt.stdout();
     let mut input = space();
-    let count = read_input(&mut input);
-    show(b"text in hex\tfrom\tlimit\tslots\tnumber\tplace\tcount\tanswers\tkept\n");
-    rows(front(&input, count));
-    warn_if_full(&input, count);
+    let count = read_input(&mut rt.stdin(), &mut input);
+    show(
+        &mut out,
+        b"text in hex\tfrom\tlimit\tslots\tnumber\tplace\tcount\tanswers\tkept\n",
+    );
+    rows(&mut out, front(&input, count));
+    warn_if_full(&mut out, &input, count);
 }

@@ -3,10 +3,12 @@
 // from this code.
 #![tactic(auto)]
 
+ghost use Rattle.std.specs.Prelude.{◌≤◌, length};
+
 use accounts::limits::MOST_KEPT;
 use accounts::row::write_header;
 use grammar::places::{Span, part};
-use libc::{STDIN_FILENO, STDOUT_FILENO};
+use std::io::{Read, Write};
 use stream::rows::{State, finish, take_part};
 use text::units::Chars;
 
@@ -27,12 +29,17 @@ fn place_after(text: &[u8], at: usize, len: usize) -> usize {
     }
 }
 
-fn take_all(array: &mut [u8; MOST_KEPT], out: &mut [u8], text: &[u8], begun: State) -> State {
+fn take_all<W: Write>(
+    writer: &mut W,
+    array: &mut [u8; MOST_KEPT],
+    out: &mut [u8],
+    text: &[u8],
+    begun: State,
+) -> State {
     let mut state = begun;
     let mut at: usize = 0;
     let mut len: usize = 0;
-    let mut turns = u64::MAX;
-    while turns > 0 {
+    for _ in 0..u64::MAX {
         if text.len() <= at {
             return state;
         }
@@ -44,16 +51,15 @@ fn take_all(array: &mut [u8; MOST_KEPT], out: &mut [u8], text: &[u8], begun: Sta
             at,
             len: Chars(to - at),
         };
-        let after = take_part(array, out, part(text, span), state);
+        let after = take_part(writer, array, out, part(text, span), state);
         state = after;
         at = to;
         len = next_len(len);
-        turns -= 1;
     }
     state
 }
 
-fn list(text: &[u8]) {
+fn list<W: Write>(writer: &mut W, text: &[u8]) {
     let mut array = [0u8; MOST_KEPT];
     let mut space = [0u8; 64];
     let out: &mut [u8] = &mut space;
@@ -65,8 +71,33 @@ fn list(text: &[u8]) {
         used: count.0,
         open: true,
     };
-    let state = take_all(&mut array, out, text, begun);
-    finish(&array, out, state);
+    let state = take_all(writer, &mut array, out, text, begun);
+    finish(writer, &array, out, state);
+}
+
+// Fills a buffer from its start, as far as the input goes or can be read.
+fn fill<R: Read>(reader: &mut R, buf: &mut [u8]) -> usize
+    ensures { result ≤ length buf.new }
+{
+    let mut done: usize = 0;
+    while done < buf.len() {
+        let got = read_some(reader, &mut buf[done..]);
+        if got == 0 {
+            return done;
+        }
+        done += got;
+    }
+    done
+}
+
+// One read; 0 where the input ended or can't be read.
+fn read_some<R: Read>(reader: &mut R, buf: &mut [u8]) -> usize
+    ensures { result ≤ length buf.new }
+{
+    match reader.read(buf) {
+        Ok(n) => n,
+        Err(_) => 0,
+    }
 }
 
 // Made in a function of its own: a proof writes an array out wherever it is made.
@@ -74,16 +105,14 @@ fn space() -> [u8; 524288] {
     [0u8; 524288]
 }
 
-fn main() {
+fn main(rt: HostRuntime) {
+    let mut out = rt.stdout();
     let mut input = space();
-    let n = io::read_full(STDIN_FILENO, &mut input);
+    let n = fill(&mut rt.stdin(), &mut input);
     if n <= input.len() {
-        list(&input[0..n]);
+        list(&mut out, &input[0..n]);
     }
     if input.len() <= n {
-        io::write_all(
-            STDOUT_FILENO,
-            b"the input fills the buffer: what follows is left out\n",
-        );
+        let _ = out.write_all(b"the input fills the buffer: what follows is left out\n");
     }
 }

@@ -13,6 +13,7 @@ use rows::columns::number_fields;
 use rows::hex::hex_column;
 use rows::input::{read_input, space, warn_if_full};
 use rows::show::{show, show_hex, show_number, show_reading, show_text};
+use std::io::Write;
 use text::lines::{after_line, line_at};
 use text::place::Written;
 use text::scan::next_at;
@@ -22,10 +23,10 @@ use text::units::Bytes;
 const ROOM: usize = 81;
 
 // The bytes of a byte string; none where it is absent or the text is refused. One that was put elsewhere shows as `2e`.
-fn show_bytes(t: &[u8], choice: ByteString) {
+fn show_bytes<W: Write>(out: &mut W, t: &[u8], choice: ByteString) {
     let mut buf = [b'.'; ROOM];
     let r = byte_string(t, choice, &mut buf, PLACE);
-    show_hex(front(&buf[PLACE..], r.count));
+    show_hex(out, front(&buf[PLACE..], r.count));
 }
 
 // The place from which a buffer lacks room for the last of so many bytes; its end where there are none.
@@ -45,14 +46,14 @@ fn number_without_room(t: &[u8]) -> u8 {
     r.number
 }
 
-fn read_row(t: &[u8]) {
-    show(t);
-    show_reading(read(t));
-    show_bytes(t, ByteString::Keyid);
-    show_bytes(t, ByteString::Data);
-    show_bytes(t, ByteString::Salt);
-    show_bytes(t, ByteString::Output);
-    show_number(number_without_room(t) as u64);
+fn read_row<W: Write>(out: &mut W, t: &[u8]) {
+    show(out, t);
+    show_reading(out, read(t));
+    show_bytes(out, t, ByteString::Keyid);
+    show_bytes(out, t, ByteString::Data);
+    show_bytes(out, t, ByteString::Salt);
+    show_bytes(out, t, ByteString::Output);
+    show_number(out, number_without_room(t) as u64);
 }
 
 // The writer, on all columns.
@@ -72,36 +73,43 @@ fn write_fields(line: &[u8], buf: &mut [u8]) -> Written {
     )
 }
 
-fn write_row(line: &[u8]) {
+fn write_row<W: Write>(out: &mut W, line: &[u8]) {
     let mut buf = [b'.'; 300];
     let r = write_fields(line, &mut buf);
-    show(line);
-    show_number(r.number as u64);
-    show_text(&buf, PLACE, r.count);
+    show(out, line);
+    show_number(out, r.number as u64);
+    show_text(out, &buf, PLACE, r.count);
 }
 
-fn row(line: &[u8]) {
+fn row<W: Write>(out: &mut W, line: &[u8]) {
     if next_at(line, 0, b'\t') < line.len() {
-        write_row(line);
+        write_row(out, line);
     } else {
-        read_row(line);
+        read_row(out, line);
     }
-    show(b"\n");
+    show(out, b"\n");
 }
 
-fn rows(text: &[u8]) {
+fn rows<W: Write>(out: &mut W, text: &[u8]) {
     let mut at: usize = 0;
     while at < text.len() {
-        row(line_at(text, at));
+        row(out, line_at(text, at));
         at = after_line(text, at);
     }
 }
 
-fn main() {
+fn main(rt: HostRuntime) {
+    let mut out = rt.stdout();
     let mut input = space();
-    let count = read_input(&mut input);
-    show(b"text\tnumber\tkind\tid\tversion\tm\tt\tp\tkeyid\tdata\tsalt\toutput\tno_room\n");
-    show(b"id\tversion\tm\tt\tp\tkeyid\tdata\tsalt\toutput\tnumber\ttext\n");
-    rows(front(&input, count));
-    warn_if_full(&input, count);
+    let count = read_input(&mut rt.stdin(), &mut input);
+    show(
+        &mut out,
+        b"text\tnumber\tkind\tid\tversion\tm\tt\tp\tkeyid\tdata\tsalt\toutput\tno_room\n",
+    );
+    show(
+        &mut out,
+        b"id\tversion\tm\tt\tp\tkeyid\tdata\tsalt\toutput\tnumber\ttext\n",
+    );
+    rows(&mut out, front(&input, count));
+    warn_if_full(&mut out, &input, count);
 }

@@ -9,6 +9,7 @@ use profile::writer::write;
 use rows::buffer::front;
 use rows::input::{read_input, space, warn_if_full};
 use rows::show::{show, show_hex, show_number, show_reading, show_text};
+use std::io::Write;
 use text::lines::{after_line, line_at};
 use text::place::Written;
 
@@ -16,10 +17,10 @@ use text::place::Written;
 const LONGEST_PERMITTED: usize = 64;
 
 // The bytes of a byte string; none where it is absent or the string is refused.
-fn show_bytes(s: &[u8], choice: ByteString) {
+fn show_bytes<W: Write>(out: &mut W, s: &[u8], choice: ByteString) {
     let mut buf = [0u8; LONGEST_PERMITTED];
     let r = byte_string(s, choice, &mut buf, 0);
-    show_hex(front(&buf, r.count));
+    show_hex(out, front(&buf, r.count));
 }
 
 // The fields of an accepted string, written back to the start of a buffer: the number fields as they were read, the byte strings decoded here.
@@ -43,44 +44,46 @@ fn write_back(s: &[u8], fields: NumberFields, buf: &mut [u8]) -> Written {
     )
 }
 
-fn show_written(s: &[u8], fields: NumberFields) {
+fn show_written<W: Write>(out: &mut W, s: &[u8], fields: NumberFields) {
     let mut buf = [0u8; 300];
     let r = write_back(s, fields, &mut buf);
-    show_text(&buf, 0, r.count);
+    show_text(out, &buf, 0, r.count);
 }
 
-fn row(s: &[u8]) {
+fn row<W: Write>(out: &mut W, s: &[u8]) {
     let r = read(s);
-    show(s);
-    show_reading(r);
-    show_bytes(s, ByteString::Keyid);
-    show_bytes(s, ByteString::Data);
-    show_bytes(s, ByteString::Salt);
-    show_bytes(s, ByteString::Output);
+    show(out, s);
+    show_reading(out, r);
+    show_bytes(out, s, ByteString::Keyid);
+    show_bytes(out, s, ByteString::Data);
+    show_bytes(out, s, ByteString::Salt);
+    show_bytes(out, s, ByteString::Output);
     let a = algorithm_version(s);
-    show_number(a.version as u64);
+    show_number(out, a.version as u64);
     if r.number == 0 {
-        show_written(s, r.fields);
+        show_written(out, s, r.fields);
     } else {
-        show(b"\t");
+        show(out, b"\t");
     }
-    show(b"\n");
+    show(out, b"\n");
 }
 
-fn rows(text: &[u8]) {
+fn rows<W: Write>(out: &mut W, text: &[u8]) {
     let mut at: usize = 0;
     while at < text.len() {
-        row(line_at(text, at));
+        row(out, line_at(text, at));
         at = after_line(text, at);
     }
 }
 
-fn main() {
+fn main(rt: HostRuntime) {
+    let mut out = rt.stdout();
     let mut input = space();
-    let count = read_input(&mut input);
+    let count = read_input(&mut rt.stdin(), &mut input);
     show(
+        &mut out,
         b"string\tnumber\tkind\tid\tversion\tm\tt\tp\tkeyid\tdata\tsalt\toutput\talgorithm\twritten\n",
     );
-    rows(front(&input, count));
-    warn_if_full(&input, count);
+    rows(&mut out, front(&input, count));
+    warn_if_full(&mut out, &input, count);
 }

@@ -1,72 +1,68 @@
 // Answers on standard output, each column after its tab.
 use grammar::places::{Span, part};
-use libc::STDOUT_FILENO;
 use profile::fields::Reading;
+use std::io::Write;
 use table::version::Version;
 use text::units::Chars;
 
-pub fn show(text: &[u8]) {
-    io::write_all(STDOUT_FILENO, text);
+// A write that fails is passed over: what is missing shows beside the stored output.
+pub fn show<W: Write>(out: &mut W, text: &[u8]) {
+    let _ = out.write_all(text);
 }
 
-pub fn show_number(n: u64) {
-    show(b"\t");
-    io::print_decimal(STDOUT_FILENO, n);
+pub fn show_number<W: Write>(out: &mut W, n: u64) {
+    let _ = write!(out, "\t{n}");
 }
 
-fn show_version(v: Version) {
+fn show_version<W: Write>(out: &mut W, v: Version) {
     match v {
-        Version::Absent => show(b"\tabsent"),
-        Version::Number(n) => show_number(n as u64),
+        Version::Absent => show(out, b"\tabsent"),
+        Version::Number(n) => show_number(out, n as u64),
     }
 }
 
 // number, kind, id, version, m, t, p
-pub fn show_reading(r: Reading) {
+pub fn show_reading<W: Write>(out: &mut W, r: Reading) {
     let fields = r.fields;
     let v = fields.version;
-    show_number(r.number as u64);
-    show_number(r.kind as u64);
-    show_number(fields.id as u64);
-    show_version(v);
-    show_number(fields.m as u64);
-    show_number(fields.t as u64);
-    show_number(fields.p as u64);
+    show_number(out, r.number as u64);
+    show_number(out, r.kind as u64);
+    show_number(out, fields.id as u64);
+    show_version(out, v);
+    show_number(out, fields.m as u64);
+    show_number(out, fields.t as u64);
+    show_number(out, fields.p as u64);
 }
 
-fn show_byte(b: u8) {
-    io::print_hex(STDOUT_FILENO, b as u64, 2);
+fn show_byte<W: Write>(out: &mut W, b: u8) {
+    let _ = write!(out, "{b:02x}");
 }
 
 // The bytes as hex digits.
-pub fn show_hex(bytes: &[u8]) {
-    show(b"\t");
-    let mut i: usize = 0;
-    while i < bytes.len() {
-        show_byte(bytes[i]);
-        i += 1;
+pub fn show_hex<W: Write>(out: &mut W, bytes: &[u8]) {
+    show(out, b"\t");
+    for b in bytes {
+        show_byte(out, *b);
     }
 }
 
-fn show_decimal(n: u8) {
-    io::print_decimal(STDOUT_FILENO, n as u64);
+fn show_decimal<W: Write>(out: &mut W, n: u8) {
+    let _ = write!(out, "{n}");
 }
 
 // Numbers, parted by commas.
-pub fn show_numbers(numbers: &[u8]) {
-    show(b"\t");
-    let mut i: usize = 0;
-    while i < numbers.len() {
+pub fn show_numbers<W: Write>(out: &mut W, numbers: &[u8]) {
+    show(out, b"\t");
+    for (i, n) in numbers.iter().enumerate() {
         if 0 < i {
-            show(b",");
+            show(out, b",");
         }
-        show_decimal(numbers[i]);
-        i += 1;
+        show_decimal(out, *n);
     }
 }
 
 // The text at a place of a buffer; none where it doesn't lie inside.
-pub fn show_text(buf: &[u8], at: usize, len: Chars) {
-    show(b"\t");
-    show(part(buf, Span { at, len }));
+pub fn show_text<W: Write>(out: &mut W, buf: &[u8], at: usize, len: Chars) {
+    show(out, b"\t");
+    show(out, part(buf, Span { at, len }));
 }

@@ -1,9 +1,10 @@
 // Rows of the listing, part by part of the input.
-ghost use Rattle.std.specs.Prelude.{◌≤◌, ◌≡◌, false, length};
+ghost use Rattle.std.specs.Prelude.{◌≤◌, ◌≡◌, true, false, length, take};
+ghost use Rattle.std.specs.Io.KnownBytes.{Appends};
 
 use accounts::limits::MOST_KEPT;
 use accounts::listing::{Listed, end, next};
-use libc::STDOUT_FILENO;
+use std::io::Write;
 use text::order::min;
 
 // The bytes kept of the unfinished line, its number, the bytes of output that wait, and whether every write so far succeeded.
@@ -24,29 +25,36 @@ fn waiting(out: &[u8], used: usize, count: usize) -> usize
 }
 
 // Writes what waits; false where that fails.
-fn flush(out: &[u8], used: usize) -> bool {
+fn flush<W: Write>(writer: &mut W, out: &[u8], used: usize) -> bool
+    ensures { result ≡ true → Appends (W.contents writer.old) (W.contents writer.new) (take used out.now) }
+{
     let n = min(used, out.len());
-    io::write_all(STDOUT_FILENO, &out[0..n])
+    writer.write_all(&out[0..n]).is_ok()
 }
 
 // Writes what waits, for a row that doesn't fit behind it; false also where nothing waits: the row fits no emptier buffer.
-fn make_room(out: &[u8], used: usize) -> bool {
+fn make_room<W: Write>(writer: &mut W, out: &[u8], used: usize) -> bool {
     if used == 0 {
         return false;
     }
-    flush(out, used)
+    flush(writer, out, used)
 }
 
 // take_part, where every write so far succeeded.
-fn take_rows(array: &mut [u8; MOST_KEPT], out: &mut [u8], part: &[u8], begun: State) -> State
+fn take_rows<W: Write>(
+    writer: &mut W,
+    array: &mut [u8; MOST_KEPT],
+    out: &mut [u8],
+    part: &[u8],
+    begun: State,
+) -> State
     ensures { result.used ≤ length out.old }
 {
     let mut kept = begun.kept;
     let mut line = begun.line;
     let mut used = begun.used;
     let mut from: usize = 0;
-    let mut turns = u64::MAX;
-    while turns > 0 {
+    for _ in 0..u64::MAX {
         match next(array, kept, line, part, from, out, used) {
             Listed::Row {
                 place,
@@ -67,7 +75,7 @@ fn take_rows(array: &mut [u8; MOST_KEPT], out: &mut [u8], part: &[u8], begun: St
                 };
             }
             Listed::NoRoom => {
-                if !make_room(&out[..], used) {
+                if !make_room(writer, &out[..], used) {
                     return State {
                         kept,
                         line,
@@ -78,7 +86,6 @@ fn take_rows(array: &mut [u8; MOST_KEPT], out: &mut [u8], part: &[u8], begun: St
                 used = 0;
             }
         }
-        turns -= 1;
     }
     State {
         kept,
@@ -90,11 +97,19 @@ fn take_rows(array: &mut [u8; MOST_KEPT], out: &mut [u8], part: &[u8], begun: St
 
 // The rows of the lines that end in a part; when no more fit, those that wait are written. After a failed write nothing more is written, and
 // so where a row doesn't fit the whole buffer: 36 bytes are enough.
-pub fn take_part(array: &mut [u8; MOST_KEPT], out: &mut [u8], part: &[u8], begun: State) -> State
-    ensures { result.used ≤ length out.old }
+pub fn take_part<W: Write>(
+    writer: &mut W,
+    array: &mut [u8; MOST_KEPT],
+    out: &mut [u8],
+    part: &[u8],
+    begun: State,
+) -> State
+    ensures waits { result.used ≤ length out.old }
+    ensures stays_closed { begun.«open» ≡ false → result.«open» ≡ false }
+    ensures writes_no_more { begun.«open» ≡ false → writer.new ≡ writer.old }
 {
     if begun.open {
-        return take_rows(array, out, part, begun);
+        return take_rows(writer, array, out, part, begun);
     }
     State {
         kept: begun.kept,
@@ -105,18 +120,27 @@ pub fn take_part(array: &mut [u8; MOST_KEPT], out: &mut [u8], part: &[u8], begun
 }
 
 // What waits, without the unfinished line; whether every write succeeded.
-pub fn flush_rows(out: &[u8], state: State) -> bool
-    ensures { state.open ≡ false → result ≡ false }
+pub fn flush_rows<W: Write>(writer: &mut W, out: &[u8], state: State) -> bool
+    ensures not_forgotten { state.«open» ≡ false → result ≡ false }
+    ensures writes_no_more { state.«open» ≡ false → writer.new ≡ writer.old }
+    ensures written { result ≡ true → Appends (W.contents writer.old) (W.contents writer.new) (take state.used out.now) }
 {
     if !state.open {
         return false;
     }
-    flush(out, state.used)
+    flush(writer, out, state.used)
 }
 
 // The row of the last line, and what waits; whether every write succeeded. A row that doesn't fit goes into the emptied buffer.
-pub fn finish(array: &[u8; MOST_KEPT], out: &mut [u8], state: State) -> bool
-    ensures { length out.new ≡ length out.old }
+pub fn finish<W: Write>(
+    writer: &mut W,
+    array: &[u8; MOST_KEPT],
+    out: &mut [u8],
+    state: State,
+) -> bool
+    ensures size { length out.new ≡ length out.old }
+    ensures not_forgotten { state.«open» ≡ false → result ≡ false }
+    ensures writes_no_more { state.«open» ≡ false → writer.new ≡ writer.old }
 {
     if !state.open {
         return false;
@@ -125,9 +149,9 @@ pub fn finish(array: &[u8; MOST_KEPT], out: &mut [u8], state: State) -> bool
     let w = end(array, state.kept, state.line, out, used);
     if w.number == 0 {
         let count = w.count;
-        return flush(&out[..], waiting(&out[..], used, count.0));
+        return flush(writer, &out[..], waiting(&out[..], used, count.0));
     }
-    if !make_room(&out[..], used) {
+    if !make_room(writer, &out[..], used) {
         return false;
     }
     let again = end(array, state.kept, state.line, out, 0);
@@ -135,5 +159,5 @@ pub fn finish(array: &[u8; MOST_KEPT], out: &mut [u8], state: State) -> bool
         return false;
     }
     let count = again.count;
-    flush(&out[..], waiting(&out[..], 0, count.0))
+    flush(writer, &out[..], waiting(&out[..], 0, count.0))
 }

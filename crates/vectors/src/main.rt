@@ -4,21 +4,23 @@
 // Columns: encode, decode or number, text, place; range, text, low, high; string or places, text.
 #![tactic(auto)]
 
+ghost use Rattle.std.specs.Prelude.{◌≤◌, length};
+
 use decimal::reader::{Limited, read_decimal, read_within};
 use grammar::parts::{item_name, item_value, piece};
 use grammar::places::{Piece, Span};
-use libc::{STDIN_FILENO, STDOUT_FILENO};
+use std::io::{Read, Write};
 use text::lines::{after_line, line_at};
 use text::scan::nth_part;
 
-fn show(text: &[u8]) {
-    io::write_all(STDOUT_FILENO, text);
+// A write that fails is passed over: what is missing shows beside the stored output.
+fn show<W: Write>(out: &mut W, text: &[u8]) {
+    let _ = out.write_all(text);
 }
 
 // A tab and a number.
-fn number(n: u64) {
-    show(b"\t");
-    io::print_decimal(STDOUT_FILENO, n);
+fn number<W: Write>(out: &mut W, n: u64) {
+    let _ = write!(out, "\t{n}");
 }
 
 // The column at an index from 0; empty past the last.
@@ -36,87 +38,87 @@ fn count(line: &[u8], index: usize) -> u64 {
 }
 
 // number, count, the buffer
-fn outcome(answer: u8, count: usize, buf: &[u8]) {
-    number(answer as u64);
-    number(count as u64);
-    show(b"\t");
-    show(buf);
+fn outcome<W: Write>(out: &mut W, answer: u8, count: usize, buf: &[u8]) {
+    number(out, answer as u64);
+    number(out, count as u64);
+    show(out, b"\t");
+    show(out, buf);
 }
 
-fn encode(line: &[u8]) {
+fn encode<W: Write>(out: &mut W, line: &[u8]) {
     let mut buf = [46u8; 12];
     let at = count(line, 2) as usize;
     let r = b64::encoder::encode(column(line, 1), &mut buf, at);
-    outcome(r.number, r.count.0, &buf);
+    outcome(out, r.number, r.count.0, &buf);
 }
 
-fn decode(line: &[u8]) {
+fn decode<W: Write>(out: &mut W, line: &[u8]) {
     let mut buf = [46u8; 10];
     let at = count(line, 2) as usize;
     let r = b64::decoder::decode(column(line, 1), &mut buf, at);
-    outcome(r.number, r.count.0, &buf);
+    outcome(out, r.number, r.count.0, &buf);
 }
 
 // The number read is written again.
-fn decimal(line: &[u8]) {
+fn decimal<W: Write>(out: &mut W, line: &[u8]) {
     let d = read_decimal(column(line, 1));
     let mut buf = [46u8; 24];
     let at = count(line, 2) as usize;
     let w = decimal::writer::write_decimal(d.value, &mut buf, at);
-    number(d.number as u64);
-    outcome(w.number, w.count.0, &buf);
+    number(out, d.number as u64);
+    outcome(out, w.number, w.count.0, &buf);
 }
 
 // M malformed, O outside, or the value.
-fn range(line: &[u8]) {
+fn range<W: Write>(out: &mut W, line: &[u8]) {
     match read_within(column(line, 1), count(line, 2), count(line, 3)) {
-        Limited::Malformed => show(b"\tM"),
-        Limited::Outside => show(b"\tO"),
-        Limited::Value(n) => number(n),
+        Limited::Malformed => show(out, b"\tM"),
+        Limited::Outside => show(out, b"\tO"),
+        Limited::Value(n) => number(out, n),
     }
 }
 
-fn item(s: &[u8], index: usize) {
-    show(item_name(s, index));
-    show(b":");
-    show(item_value(s, index));
+fn item<W: Write>(out: &mut W, s: &[u8], index: usize) {
+    show(out, item_name(s, index));
+    show(out, b":");
+    show(out, item_value(s, index));
 }
 
 // number, items, the five pieces, the items at 0 and 1
-fn string(s: &[u8]) {
+fn string<W: Write>(out: &mut W, s: &[u8]) {
     let layout = grammar::pieces::read(s);
-    number(layout.number as u64);
-    number(layout.items as u64);
-    show(b"\t");
-    show(piece(s, Piece::Id));
-    show(b"|");
-    show(piece(s, Piece::Version));
-    show(b"|");
-    show(piece(s, Piece::Params));
-    show(b"|");
-    show(piece(s, Piece::Salt));
-    show(b"|");
-    show(piece(s, Piece::Output));
-    show(b"\t");
-    item(s, 0);
-    show(b" ");
-    item(s, 1);
+    number(out, layout.number as u64);
+    number(out, layout.items as u64);
+    show(out, b"\t");
+    show(out, piece(s, Piece::Id));
+    show(out, b"|");
+    show(out, piece(s, Piece::Version));
+    show(out, b"|");
+    show(out, piece(s, Piece::Params));
+    show(out, b"|");
+    show(out, piece(s, Piece::Salt));
+    show(out, b"|");
+    show(out, piece(s, Piece::Output));
+    show(out, b"\t");
+    item(out, s, 0);
+    show(out, b" ");
+    item(out, s, 1);
 }
 
 // The place and the length of a piece.
-fn span(w: Span) {
-    number(w.at as u64);
-    number(w.len.0 as u64);
+fn span<W: Write>(out: &mut W, w: Span) {
+    number(out, w.at as u64);
+    number(out, w.len.0 as u64);
 }
 
-fn places(s: &[u8]) {
+fn places<W: Write>(out: &mut W, s: &[u8]) {
     let layout = grammar::pieces::read(s);
     let places = layout.places;
-    span(places.id);
-    span(places.version);
-    span(places.params);
-    span(places.salt);
-    span(places.output);
+    span(out, places.id);
+    span(out, places.version);
+    span(out, places.params);
+    span(out, places.salt);
+    span(out, places.output);
 }
 
 // The first byte; 0 of an empty text.
@@ -128,30 +130,55 @@ fn first(text: &[u8]) -> u8 {
 }
 
 // The first letter of a row names its entry.
-fn answer(line: &[u8]) {
+fn answer<W: Write>(out: &mut W, line: &[u8]) {
     let c = first(line);
     match c {
-        b'e' => encode(line),
-        b'd' => decode(line),
-        b'n' => decimal(line),
-        b'r' => range(line),
-        b's' => string(column(line, 1)),
-        b'p' => places(column(line, 1)),
-        _ => show(b"\tno such entry"),
+        b'e' => encode(out, line),
+        b'd' => decode(out, line),
+        b'n' => decimal(out, line),
+        b'r' => range(out, line),
+        b's' => string(out, column(line, 1)),
+        b'p' => places(out, column(line, 1)),
+        _ => show(out, b"\tno such entry"),
     }
 }
 
-fn row(line: &[u8]) {
-    show(line);
-    answer(line);
-    show(b"\n");
+fn row<W: Write>(out: &mut W, line: &[u8]) {
+    show(out, line);
+    answer(out, line);
+    show(out, b"\n");
 }
 
-fn rows(text: &[u8]) {
+fn rows<W: Write>(out: &mut W, text: &[u8]) {
     let mut at: usize = 0;
     while at < text.len() {
-        row(line_at(text, at));
+        row(out, line_at(text, at));
         at = after_line(text, at);
+    }
+}
+
+// Fills a buffer from its start, as far as the input goes or can be read.
+fn fill<R: Read>(reader: &mut R, buf: &mut [u8]) -> usize
+    ensures { result ≤ length buf.new }
+{
+    let mut done: usize = 0;
+    while done < buf.len() {
+        let got = read_some(reader, &mut buf[done..]);
+        if got == 0 {
+            return done;
+        }
+        done += got;
+    }
+    done
+}
+
+// One read; 0 where the input ended or can't be read.
+fn read_some<R: Read>(reader: &mut R, buf: &mut [u8]) -> usize
+    ensures { result ≤ length buf.new }
+{
+    match reader.read(buf) {
+        Ok(n) => n,
+        Err(_) => 0,
     }
 }
 
@@ -160,13 +187,17 @@ fn space() -> [u8; 262144] {
     [0u8; 262144]
 }
 
-fn main() {
+fn main(rt: HostRuntime) {
+    let mut out = rt.stdout();
     let mut input = space();
-    let n = io::read_full(STDIN_FILENO, &mut input);
+    let n = fill(&mut rt.stdin(), &mut input);
     if n <= input.len() {
-        rows(&input[0..n]);
+        rows(&mut out, &input[0..n]);
     }
     if input.len() <= n {
-        show(b"the input fills the buffer: what follows is left out\n");
+        show(
+            &mut out,
+            b"the input fills the buffer: what follows is left out\n",
+        );
     }
 }

@@ -9,6 +9,7 @@ use rows::columns::{column, id, number_fields};
 use rows::hex::hex_column;
 use rows::input::{read_input, space, warn_if_full};
 use rows::show::{show, show_number, show_text};
+use std::io::Write;
 use text::lines::{after_line, line_at};
 use text::place::Written;
 use text::scan::same_text;
@@ -51,27 +52,31 @@ fn write_line(line: &[u8], buf: &mut [u8]) -> Written {
 }
 
 // The line, the number and the string; no string where it is refused.
-fn row(line: &[u8]) {
+fn row<W: Write>(out: &mut W, line: &[u8]) {
     let mut buf = [0u8; 300];
     let r = write_line(line, &mut buf);
-    show(line);
-    show_number(r.number as u64);
-    show_text(&buf, PLACE, r.count);
-    show(b"\n");
+    show(out, line);
+    show_number(out, r.number as u64);
+    show_text(out, &buf, PLACE, r.count);
+    show(out, b"\n");
 }
 
-fn rows(text: &[u8]) {
+fn rows<W: Write>(out: &mut W, text: &[u8]) {
     let mut at: usize = 0;
     while at < text.len() {
-        row(line_at(text, at));
+        row(out, line_at(text, at));
         at = after_line(text, at);
     }
 }
 
-fn main() {
+fn main(rt: HostRuntime) {
+    let mut out = rt.stdout();
     let mut input = space();
-    let count = read_input(&mut input);
-    show(b"id\tversion\tm\tt\tp\tkeyid\tdata\tsalt\toutput\tnumber\tstring\n");
-    rows(front(&input, count));
-    warn_if_full(&input, count);
+    let count = read_input(&mut rt.stdin(), &mut input);
+    show(
+        &mut out,
+        b"id\tversion\tm\tt\tp\tkeyid\tdata\tsalt\toutput\tnumber\tstring\n",
+    );
+    rows(&mut out, front(&input, count));
+    warn_if_full(&mut out, &input, count);
 }
