@@ -26,6 +26,9 @@ LOGIC = set(
 )
 functions = set()
 
+# the library has a tactic of that name, which a file that forgot the import would take
+BY_HAND = {"first_of": "first_number"}
+
 
 def humps(name):
     return re.sub(r"([a-z0-9])([A-Z])", lambda m: m.group(1) + "_" + m.group(2).lower(), name)
@@ -145,7 +148,7 @@ def main():
             others |= imported_in(texts[path], own)[1]
     for path, found in declared.items():
         for name, is_field in found.items():
-            new = humps(name.replace("-", "_")) if is_field else snake(name)
+            new = BY_HAND.get(name) or (humps(name.replace("-", "_")) if is_field else snake(name))
             if new != name and NAME.match(name) and name not in others:
                 table[name] = new
                 if is_field:

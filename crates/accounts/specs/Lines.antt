@@ -3,7 +3,7 @@
 -- Assumes nothing.
 use Rattle.std.specs.Prelude.{ℕ, not, cond, ◌&&◌, List, [], ◌∷◌, ◌++◌, ltb, eqb, length, drop}
 use Rattle.text.specs.Text.{tab, line_feed, has, cut}
-use Rattle.text.specs.Rows.{Row, row, first_of}
+use Rattle.text.specs.Rows.{Row, row, first_number}
 use Rattle.grammar.specs.Rules.{is_name}
 use Rattle.table.specs.Limits.{edition_two}
 use Rattle.profile.specs.Entries.{reading}
@@ -54,7 +54,7 @@ line_rows l =
     ∷ []
 
 unfoldable pub line_refusal : List ℕ → ℕ
-line_refusal l = first_of (line_rows l)
+line_refusal l = first_number (line_rows l)
 
 abbrev pub string_answer : List ℕ → Answer
 string_answer s = record { number = (reading edition_two s).number; kind = (reading edition_two s).kind }

@@ -27,7 +27,18 @@ fn number(line: &[u8], index: usize) -> usize {
 
 // How many places hold what they held.
 fn kept(slice: &[u8]) -> u64 {
-    slice.iter().filter(|b| **b == UNWRITTEN).count() as u64
+    let mut count: u64 = 0;
+    for b in slice {
+        if *b == UNWRITTEN {
+            count = next(count);
+        }
+    }
+    count
+}
+
+// One more, up to the largest number.
+fn next(n: u64) -> u64 {
+    if n < u64::MAX { n + 1 } else { n }
 }
 
 fn show_batch<W: Write>(out: &mut W, batch: Batch, slice: &[u8]) {

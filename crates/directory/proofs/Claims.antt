@@ -11,7 +11,7 @@ use lib.Dec.{leb, eqb}
 use lib.ListN.{length, drop}
 use Rattle.text.specs.Text.{text, maybe}
 use Rattle.text.specs.Place.{refused, put_after, Refuses}
-use Rattle.text.specs.Rows.{Row, row, first_of}
+use Rattle.text.specs.Rows.{Row, row, first_number}
 use Rattle.text.proofs.Rows.{first_passes}
 use Rattle.text.proofs.Tests.{from_within}
 use Rattle.text.proofs.Writing.{after_zero, after_refuses}
@@ -161,7 +161,7 @@ module _ (t s : List ℕ) (d : dollar_string t ≡ some s) where
   other_rows : List Row
   other_rows = row 1 (bad_string s) ∷ (drop 1 (piece_rows (pieces s)) ++ drop 1 (profile_rows edition_two (pieces s)))
 
-  by_others : reader_number edition_two s ≡ first_of other_rows
+  by_others : reader_number edition_two s ≡ first_number other_rows
   unfolding reader_number other_rows
   by_others = let i = id_is t s d in rw (i.keeps, i.known)
 
@@ -212,11 +212,11 @@ writer_own f = go (is_directory_id f.numbers.id) refl
     after_8 = drop 1 (writer_rows edition_two f) ++ (row 24 (is_id_alone edition_two f) ∷ [])
 
     go : (b : Bool) → is_directory_id f.numbers.id ≡ b
-        → (cond (not b) 24 (first_of (writer_rows edition_two f ++ (row 24 (is_id_alone edition_two f) ∷ []))) ≡ 0 → ⊥)
-        → is_directory_writer_number (cond (not b) 24 (first_of (writer_rows edition_two f ++ (row 24 (is_id_alone edition_two f) ∷ [])))) ≡ true
+        → (cond (not b) 24 (first_number (writer_rows edition_two f ++ (row 24 (is_id_alone edition_two f) ∷ []))) ≡ 0 → ⊥)
+        → is_directory_writer_number (cond (not b) 24 (first_number (writer_rows edition_two f ++ (row 24 (is_id_alone edition_two f) ∷ [])))) ≡ true
     go false q n = refl
     go true q n =
-        let e : first_of (writer_rows edition_two f ++ (row 24 (is_id_alone edition_two f) ∷ [])) ≡ first_of after_8 = rw (known f q) in
+        let e : first_number (writer_rows edition_two f ++ (row 24 (is_id_alone edition_two f) ∷ [])) ≡ first_number after_8 = rw (known f q) in
         ap is_directory_writer_number e ∙ first_passes is_directory_writer_number after_8 refl (λ z. n (e ∙ z))
 
 -- ---- braces, and lengths

@@ -4,7 +4,7 @@
 use Rattle.std.specs.Prelude.{ℕ, Bool, not, List, [], ◌∷◌, ◌++◌}
 use Rattle.text.specs.Text.{within, same, maybe}
 use Rattle.text.specs.Place.{Outcome, refused, put_after}
-use Rattle.text.specs.Rows.{Row, row, first_of}
+use Rattle.text.specs.Rows.{Row, row, first_number}
 use Rattle.grammar.specs.Bytes.{dollar}
 use Rattle.table.specs.Limits.{Profile, profile_of}
 use Rattle.profile.specs.Fields.{FieldSet, field_set}
@@ -59,7 +59,7 @@ abbrev pub directory_rows : List Profile → FieldSet → List Row
 directory_rows e f = row 24 (not (is_directory_id f.numbers.id)) ∷ (writer_rows e f ++ (row 24 (is_id_alone e f) ∷ []))
 
 unfoldable pub directory_writer_number : List Profile → FieldSet → ℕ
-directory_writer_number e f = first_of (directory_rows e f)
+directory_writer_number e f = first_number (directory_rows e f)
 
 -- the braced text of the string that fields are written to. Free answer: no text where that has none
 unfoldable pub directory_formatted : List Profile → FieldSet → List ℕ

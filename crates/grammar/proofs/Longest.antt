@@ -10,7 +10,7 @@ use lib.Dec.{leb, eqb}
 use lib.ListN.{length, length-append}
 use borrow.Author.Tests.{leb-true}
 use Rattle.text.specs.Text.{within, all, split, cut, list_of, violates}
-use Rattle.text.specs.Rows.{first_of}
+use Rattle.text.specs.Rows.{first_number}
 use Rattle.text.proofs.Tests.{both, is_true, from_within}
 use Rattle.text.proofs.Rows.{Clear, clear}
 use Rattle.text.proofs.Joining.{total, join-length, total-none}
@@ -117,7 +117,7 @@ string-length p (a, (b, (c, (d, (e, (f, g)))))) =
     let h₆ = join-length dollar p.id (after_id p) in
     omega arith
 
-pub at_most : (p : Pieces) → first_of (piece_rows p) ≡ 0 → length (string p) ≤ longest_string
+pub at_most : (p : Pieces) → first_number (piece_rows p) ≡ 0 → length (string p) ≤ longest_string
 at_most p e = string-length p (clear (piece_rows p) refl e)
 
 -- ---- no rule allows the empty text

@@ -10,7 +10,7 @@ use borrow.Author.Tests.{ne_eqb, eqb-true, le-leb, lt-leb}
 use lib.Dec.{leb, eqb}
 use lib.ListN.{length, get_or}
 use Rattle.text.specs.Text.{empty, parts, cut}
-use Rattle.text.specs.Rows.{first_of}
+use Rattle.text.specs.Rows.{first_number}
 use Rattle.text.proofs.Tests.{neither, is_true}
 use Rattle.text.proofs.Rows.{Clear, clear}
 use Rattle.grammar.specs.Bytes.{dollar, comma, equals}
@@ -50,7 +50,7 @@ pub number_bad_string : (s : List ℕ) → bad_string s ≡ true → grammar_num
 unfolding grammar_number
 number_bad_string s b = rw b
 
-pub number_pieces : (s : List ℕ) → bad_string s ≡ false → grammar_number s ≡ first_of (piece_rows (pieces s))
+pub number_pieces : (s : List ℕ) → bad_string s ≡ false → grammar_number s ≡ first_number (piece_rows (pieces s))
 unfolding grammar_number
 number_pieces s b = rw b
 

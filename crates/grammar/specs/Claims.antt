@@ -3,7 +3,7 @@
 use Rattle.std.specs.Prelude.{ℕ, ◌+◌, ◌*◌, ◌-◌, ◌≤◌, ◌<◌, ◌≡◌, true, false, List, [], ◌∷◌, ◌++◌, ◌≢◌, length, replicate}
 use Rattle.std.proofs.Math.Option.{some}
 use Rattle.text.specs.Text.{text, within, has, all, split, join, NoneHas, Fits, list_of}
-use Rattle.text.specs.Rows.{first_of}
+use Rattle.text.specs.Rows.{first_number}
 use Rattle.grammar.specs.Bytes.{dollar, comma, equals}
 use Rattle.grammar.specs.Limits.{longest_name, longest_value, longest_output, most_items, longest_string}
 use Rattle.grammar.specs.Pieces.{Pieces, belongs, pieces, piece_in, after_id, string}
@@ -55,7 +55,7 @@ pub record PieceClaims : Type 0 where
   -- a piece that is there is never empty
   pub never_empty : (s : List ℕ) → grammar_number s ≡ 0 → (w : Piece) (t : List ℕ) → piece_in (pieces s) w ≡ some t → 0 < length t
   -- pieces that keep the rules of rows 2 to 7 make at most 2,896 bytes, without row 1
-  pub at_most : (p : Pieces) → first_of (piece_rows p) ≡ 0 → length (string p) ≤ longest_string
+  pub at_most : (p : Pieces) → first_number (piece_rows p) ≡ 0 → length (string p) ≤ longest_string
   -- which is the sum of the pieces' limits, each with its `$`; the version has `v=` and 10 digits, the items 15 commas
   pub sum : (1 + longest_name) + (1 + (2 + 10)) + (1 + (most_items * (longest_name + 1 + longest_value) + (most_items - 1)))
       + (1 + longest_value) + (1 + longest_output.0) ≡ longest_string

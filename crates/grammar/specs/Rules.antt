@@ -2,7 +2,7 @@
 -- Assumes nothing.
 use Rattle.std.specs.Prelude.{ℕ, Bool, false, not, ◌&&◌, ◌||◌, List, [], ◌∷◌, leb, eqb, length, drop}
 use Rattle.text.specs.Text.{text, within, all, same, empty, violates}
-use Rattle.text.specs.Rows.{Row, row, first_of}
+use Rattle.text.specs.Rows.{Row, row, first_number}
 use Rattle.b64.specs.B64.{canonical}
 use Rattle.decimal.specs.Numerals.{limited_reading, limited_number}
 use Rattle.decimal.specs.declared.reader.Limited.{Limited}
@@ -79,4 +79,4 @@ grammar_rows s = row 1 (bad_string s) ∷ piece_rows (pieces s)
 
 -- the grammar reader's number
 unfoldable pub grammar_number : List ℕ → ℕ
-grammar_number s = first_of (grammar_rows s)
+grammar_number s = first_number (grammar_rows s)

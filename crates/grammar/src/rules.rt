@@ -1,6 +1,6 @@
 // The rule of each piece, and rows 1 to 7.
 ghost use Rattle.std.specs.Prelude.{◌≡◌, true, length};
-ghost use Rattle.text.specs.Rows.{first_of};
+ghost use Rattle.text.specs.Rows.{first_number};
 ghost use Rattle.grammar.specs.Pieces.{pieces};
 ghost use Rattle.grammar.specs.Items.{items_of};
 ghost use Rattle.grammar.specs.Rules.{is_version, is_output, rule_of, begins_with_dollar, bad_string, breaks, piece_rows};
@@ -81,7 +81,7 @@ fn breaks(s: &[u8], places: Places, which: Piece) -> bool
 // Rows 2 to 7: the first that applies.
 pub fn number_of(s: &[u8], sorted: Sorted) -> u8
     requires { (begins_with_dollar s.now ≡ true) × (sorted ≡ sorted_of (pieces s.now)) }
-    ensures { result ≡ first_of (piece_rows (pieces s.now)) }
+    ensures { result ≡ first_number (piece_rows (pieces s.now)) }
 {
     let places = sorted.places;
     if breaks(s, places, Piece::Id) {

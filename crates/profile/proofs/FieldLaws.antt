@@ -6,7 +6,7 @@ use mathlib.Core.Path.{◌≡◌, refl, ap}
 use mathlib.Core.List.{List}
 use mathlib.Core.Option.{none, some}
 use lib.Dec.{eqb}
-use Rattle.text.specs.Rows.{first_of}
+use Rattle.text.specs.Rows.{first_number}
 use Rattle.decimal.specs.Numerals.{limited_value}
 use Rattle.grammar.specs.Parts.{part_at}
 use Rattle.grammar.specs.declared.places.Span.{Span}
@@ -44,7 +44,7 @@ module _ (s : List ℕ) (w : Span) where
       go false = refl
 
   pub number_there : (r : NumberRule) → (w.at ≡ 0 → ⊥)
-      → (first_of (number_row r (some (part_at s w))) ≡ first_of (number_row r (span_text s w))) × (limited_value (number_reading r (part_at s w)) ≡ read_number r (span_text s w))
+      → (first_number (number_row r (some (part_at s w))) ≡ first_number (number_row r (span_text s w))) × (limited_value (number_reading r (part_at s w)) ≡ read_number r (span_text s w))
   number_there r z = rw (optional_some s w z) (refl, refl)
 
   pub left_out_there : (r : NumberRule) (value : ℕ) → (w.at ≡ 0 → ⊥) → value ≡ read_number r (span_text s w) → is_omitted r value ≡ written_out r (span_text s w)

@@ -11,7 +11,7 @@ use lib.ListN.{length}
 use borrow.Author.Tests.{eqb-true, eqb-false, ne_eqb}
 use Rattle.text.specs.Text.{within, all, empty, violates}
 use Rattle.text.specs.Place.{refused, put_after}
-use Rattle.text.specs.Rows.{first_of}
+use Rattle.text.specs.Rows.{first_number}
 use Rattle.text.proofs.Tests.{both, is_true}
 use Rattle.text.proofs.Writing.{put_refused}
 use Rattle.text.proofs.Rows.{Clear, clear, rows_stop, rows_pass}
@@ -43,7 +43,7 @@ use Rattle.profile.specs.declared.parsed.ParsedString.{ParsedString}
 use Rattle.profile.proofs.Accepted.{params_all}
 use Rattle.profile.proofs.OptionalTextLaws.{optional_none, optional_some}
 
-pub answer_rows : (e : List Profile) (s : List ℕ) → grammar_number s ≡ 0 → reader_number e s ≡ first_of (profile_rows e (pieces s))
+pub answer_rows : (e : List Profile) (s : List ℕ) → grammar_number s ≡ 0 → reader_number e s ≡ first_number (profile_rows e (pieces s))
 unfolding reader_number
 answer_rows e s z = rows_pass (grammar_rows s) (profile_rows e (pieces s)) (accepted_rows s z)
 
@@ -149,9 +149,9 @@ module _ (s : List ℕ) (z : grammar_number s ≡ 0) (places : Places) (values :
   same_rows = λ i. rows_for (profile_of edition_two (f.id_is i)) (f.version_is i) (f.values_are i) (f.unmatched_is i) (f.salt_is i) (f.output_is i)
 
   pub judged_number : reader_number edition_two s ≡ j.number
-  judged_number = answer_rows edition_two s z ∙ ap first_of (sym same_rows) ∙ sym d.number_is
+  judged_number = answer_rows edition_two s z ∙ ap first_number (sym same_rows) ∙ sym d.number_is
 
-  no_row : j.number ≡ 0 → first_of (rows_for (profile_of edition_two id) version (span_texts (part_at s places.params) values) values.unmatched (span_text s places.salt) (span_text s places.output)) ≡ 0
+  no_row : j.number ≡ 0 → first_number (rows_for (profile_of edition_two id) version (span_texts (part_at s places.params) values) values.unmatched (span_text s places.salt) (span_text s places.output)) ≡ 0
   no_row q = sym d.number_is ∙ q
 
   -- the numbers and the kind of an accepted string

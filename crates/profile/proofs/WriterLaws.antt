@@ -10,7 +10,7 @@ use native.Mathlib.Omega.{arith}
 use lib.ListN.{length, set}
 use Rattle.text.specs.Text.{empty}
 use Rattle.text.specs.Place.{has_room, Wrote, put}
-use Rattle.text.specs.Rows.{first_of}
+use Rattle.text.specs.Rows.{first_number}
 use Rattle.text.proofs.Writing.{put_clear}
 use Rattle.text.proofs.Lists.{length_filled}
 use Rattle.text.proofs.Writers.{Asked}
@@ -58,10 +58,10 @@ sized-allowed r (b ∷ bs) n = refl
 
 -- ---- the whole string, by the column r of its id; no row applies
 
-module _ (f : FieldSet) (r : Profile) (q : r ≡ here edition_two f) (z : first_of (column_rows r f) ≡ 0) where
+module _ (f : FieldSet) (r : Profile) (q : r ≡ here edition_two f) (z : first_number (column_rows r f) ≡ 0) where
   pub clear_by : writer_number edition_two f ≡ 0
   unfolding writer_number
-  clear_by = ap (λ (k : Profile). first_of (column_rows k f)) (sym q) ∙ z
+  clear_by = ap (λ (k : Profile). first_number (column_rows k f)) (sym q) ∙ z
 
   pub text_by : formatted edition_two f ≡ pieces_text r f
   text_by = formatted_is edition_two f ∙ ap (λ (k : Profile). pieces_text k f) (sym q)

@@ -4,7 +4,7 @@
 use Rattle.std.specs.Prelude.{ℕ, Bool, not, ◌||◌, List, [], ◌∷◌, ◌++◌, get_or}
 use Rattle.std.proofs.Math.Option.{Option, none, some}
 use Rattle.text.specs.Text.{text, same, empty, head_if, tail_if, violates}
-use Rattle.text.specs.Rows.{Row, row, first_of}
+use Rattle.text.specs.Rows.{Row, row, first_number}
 use Rattle.grammar.specs.Pieces.{OptionalText, Pieces, pieces}
 use Rattle.grammar.specs.Items.{Item, items_of}
 use Rattle.grammar.specs.Rules.{grammar_rows}
@@ -91,7 +91,7 @@ profile_rows e p =
 
 -- the reader's number: rows 1 to 7 are the grammar's. A string is 01's accepted where it is 0
 unfoldable pub reader_number : List Profile → List ℕ → ℕ
-reader_number e s = first_of (grammar_rows s ++ profile_rows e (pieces s))
+reader_number e s = first_number (grammar_rows s ++ profile_rows e (pieces s))
 
 -- ---- the fields
 

@@ -3,7 +3,7 @@
 use Rattle.std.specs.Prelude.{ℕ, ◌≡◌, true, not, cond, List, [], ◌∷◌, eqb}
 use Rattle.std.proofs.Math.Option.{none, some}
 use Rattle.text.specs.Text.{empty, head_if, tail_if}
-use Rattle.text.specs.Rows.{Row, first_of}
+use Rattle.text.specs.Rows.{Row, first_number}
 use Rattle.b64.specs.B64.{canonical, decode}
 use Rattle.grammar.specs.Pieces.{OptionalText}
 use Rattle.grammar.specs.Items.{Item, items_from}
@@ -46,8 +46,8 @@ pub record NumbersAre (r : Profile) (vs : List OptionalText) (m t p : ℕ) : Typ
 
 -- the first row that applies; and where none does, the numbers read
 pub record Judged (rows : List Row) (r : Profile) (vs : List OptionalText) (j : Judgement) : Type 0 where
-  pub number_is : j.number ≡ first_of rows
-  pub numbers_are : first_of rows ≡ 0 → NumbersAre r vs j.m j.t j.p
+  pub number_is : j.number ≡ first_number rows
+  pub numbers_are : first_number rows ≡ 0 → NumbersAre r vs j.m j.t j.p
 
 -- ---- one reading
 

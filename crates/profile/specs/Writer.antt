@@ -4,7 +4,7 @@
 use Rattle.std.specs.Prelude.{ℕ, ◌≡◌, Bool, true, false, not, ◌&&◌, ◌||◌, List, [], ◌∷◌, ◌++◌, length}
 use Rattle.std.proofs.Math.Option.{none, some}
 use Rattle.text.specs.Text.{all, empty, is_byte}
-use Rattle.text.specs.Rows.{Row, row, first_of}
+use Rattle.text.specs.Rows.{Row, row, first_number}
 use Rattle.grammar.specs.Pieces.{OptionalText, Pieces, string}
 use Rattle.grammar.specs.Items.{Item, params_text}
 use Rattle.table.specs.Limits.{Profile, in_range, memory_too_little, is_size, version_allowed, profile_of}
@@ -81,7 +81,7 @@ writer_rows e f = column_rows (profile_of e f.numbers.id) f
 
 -- the writer's number, before it looks at the room
 unfoldable pub writer_number : List Profile → FieldSet → ℕ
-writer_number e f = first_of (writer_rows e f)
+writer_number e f = first_number (writer_rows e f)
 
 -- ---- the string
 
@@ -134,4 +134,4 @@ short_rows e k salt output =
     row 8 (not r.known) ∷ salt_rows r salt output
 
 unfoldable pub short_writer_number : List Profile → ℕ → List ℕ → List ℕ → ℕ
-short_writer_number e k salt output = first_of (short_rows e k salt output)
+short_writer_number e k salt output = first_number (short_rows e k salt output)

@@ -1,6 +1,6 @@
 // Rows 8 to 15, over the id's column, the version, the values of the names, the salt and the output.
 ghost use Rattle.std.specs.Prelude.{ℕ, ◌≡◌, List};
-ghost use Rattle.text.specs.Rows.{first_of};
+ghost use Rattle.text.specs.Rows.{first_number};
 ghost use Rattle.table.specs.Columns.{profile_in};
 ghost use Rattle.profile.specs.Reader.{missing_or_unknown, number_rows, bytes_and_default_rows, rows_for};
 ghost use Rattle.profile.specs.ReaderSteps.{span_text, span_texts, NumbersAre, Judged};
@@ -102,7 +102,7 @@ fn read_numbers(column: Column, params: &[u8], values: Values) -> Judgement
 // Rows 12 and 13.
 fn bytes_and_defaults(column: Column, params: &[u8], values: Values, n: Judgement) -> u8
     requires { NumbersAre (profile_in column) (span_texts params.now values) n.m n.t n.p }
-    ensures { result ≡ first_of (bytes_and_default_rows (profile_in column) (span_texts params.now values)) }
+    ensures { result ≡ first_number (bytes_and_default_rows (profile_in column) (span_texts params.now values)) }
 {
     let keyid = column.keyid;
     let keyid_span = values.keyid;

@@ -1,7 +1,7 @@
 // One number parameter: its rule over the span of its value, and its text.
 ghost use Rattle.std.specs.Prelude.{ℕ, ◌≤◌, ◌≡◌, List, length};
 ghost use Rattle.std.proofs.Math.Option.{some};
-ghost use Rattle.text.specs.Rows.{first_of};
+ghost use Rattle.text.specs.Rows.{first_number};
 ghost use Rattle.text.specs.Place.{Wrote};
 ghost use Rattle.decimal.specs.Numerals.{limited_value};
 ghost use Rattle.table.specs.Limits.{longest_permitted, missing_or_unknown_number};
@@ -43,7 +43,7 @@ pub fn missing_or_unknown(rule: NumberRule, span: Span) -> bool
 
 // The text of a value, read by its rule.
 fn written(rule: NumberRule, text: &[u8]) -> Number
-    ensures { (result.number ≡ first_of (number_row rule (some text.now))) × (result.value ≡ limited_value (number_reading rule text.now)) }
+    ensures { (result.number ≡ first_number (number_row rule (some text.now))) × (result.value ≡ limited_value (number_reading rule text.now)) }
 {
     match read_within(text, lowest_of(rule) as u64, highest_of(rule) as u64) {
         Limited::Malformed => Number {
@@ -63,7 +63,7 @@ fn written(rule: NumberRule, text: &[u8]) -> Number
 
 // A number parameter: as written or, where it is left out, what its rule gives.
 pub fn read_number(rule: NumberRule, t: &[u8], span: Span) -> Number
-    ensures { (result.number ≡ first_of (number_row rule (span_text t.now span))) × (result.value ≡ read_number rule (span_text t.now span)) }
+    ensures { (result.number ≡ first_number (number_row rule (span_text t.now span))) × (result.value ≡ read_number rule (span_text t.now span)) }
 {
     if span.at == 0 {
         return Number {

@@ -1,6 +1,6 @@
 // The writer's rows 8 to 16 over the fields.
 ghost use Rattle.std.specs.Prelude.{◌≡◌};
-ghost use Rattle.text.specs.Rows.{first_of};
+ghost use Rattle.text.specs.Rows.{first_number};
 ghost use Rattle.table.specs.Columns.{profile_in};
 ghost use Rattle.profile.specs.Fields.{field_set};
 ghost use Rattle.profile.specs.Writer.{range_rows, bytes_rows, column_rows};
@@ -16,7 +16,7 @@ use table::limits::Column;
 
 // Row 11: each number in its range, then m < 8p.
 fn bad_numbers(column: Column, n: NumberFields) -> u8
-    ensures { result ≡ first_of (range_rows (profile_in column) n) }
+    ensures { result ≡ first_number (range_rows (profile_in column) n) }
 {
     let m = column.m;
     if !in_range(m, n.m) {
@@ -38,7 +38,7 @@ fn bad_numbers(column: Column, n: NumberFields) -> u8
 
 // Rows 12 to 16: keyid, data, salt, output, then no output without a salt.
 fn bad_byte_strings(column: Column, keyid: &[u8], data: &[u8], salt: &[u8], output: &[u8]) -> u8
-    ensures { result ≡ first_of (bytes_rows (profile_in column) keyid.now «data».now salt.now output.now) }
+    ensures { result ≡ first_number (bytes_rows (profile_in column) keyid.now «data».now salt.now output.now) }
 {
     let keyid_rule = column.keyid;
     if !bytes_allowed(keyid_rule, keyid) {
@@ -74,7 +74,7 @@ pub fn refusal_of(
     salt: &[u8],
     output: &[u8],
 ) -> u8
-    ensures { result ≡ first_of (column_rows (profile_in column) (field_set n keyid.now «data».now salt.now output.now)) }
+    ensures { result ≡ first_number (column_rows (profile_in column) (field_set n keyid.now «data».now salt.now output.now)) }
 {
     if !column.known {
         return UNKNOWN_ID;

@@ -1,6 +1,6 @@
 // Document 01's table: the column of each id.
 ghost use Rattle.std.specs.Prelude.{◌≡◌};
-ghost use Rattle.table.specs.Limits.{no_profile as no_profile, argon2 as argon2_profile, pbkdf2 as pbkdf2_profile, profile_of, edition_two};
+ghost use Rattle.table.specs.Limits.{no_profile, argon2 as argon2_profile, pbkdf2 as pbkdf2_profile, profile_of, edition_two};
 ghost use Rattle.table.specs.Columns.{name_at, profile_in, name_index};
 
 use crate::limits::{BytesRule, Column, NumberRule, ShortDefaults, Versions};

@@ -11,6 +11,6 @@ abbrev pub row : ℕ → Bool → Row
 row n b = record { number = n; applies = b }
 
 -- the first row that applies is the number; 0 where none does
-abbrev pub first_of : List Row → ℕ
-first_of [] = 0
-first_of (r ∷ rs) = cond r.applies r.number (first_of rs)
+abbrev pub first_number : List Row → ℕ
+first_number [] = 0
+first_number (r ∷ rs) = cond r.applies r.number (first_number rs)
