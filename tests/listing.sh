@@ -1,7 +1,6 @@
 #!/bin/sh
-# Runs the listing program (the argument, or crates/listing/out/listing, as the gate leaves it) on input that ends, on input that can't be read and on
-# output that can't be
-# written, and compares standard output, standard error and the exit status.
+# Runs the listing program (the argument, or crates/listing/out/listing, as the gate leaves it) on input that ends, on input
+# that can't be read and on output that can't be written, and compares standard output, standard error and the exit status.
 set -e
 program=${1:-$(dirname "$0")/../crates/listing/out/listing}
 work=$(mktemp -d)

@@ -4,8 +4,11 @@
 usage: python3 tools/respell.py [--list]      at the top of the repository; --list prints the spellings and what falls together, and writes nothing
 
 What turns: each value, lemma and record field that an .antt file of specs/ or proofs/ declares (files of a function's own proof aside) and that has
-a dash or a capital inside it, as 'nextLine' and 'find-here'. Types and facts keep their camel case, and whatever Rattle or a library names keeps its
-spelling: in a file a name turns where the file declares it, imports it from a crate of the repository, or has it as a field of a record.
+a dash or a capital inside it, as 'nextLine' and 'find-here'. A dash stays between the names of two functions, as in 'length-encode'; a lemma that
+would have a definition's name gets '_lem'; BY_HAND has names apart. Types and facts keep their camel case, and whatever Rattle or a library names
+keeps its spelling: in a file a name turns where the file declares it, imports it from a crate of the repository, or has it as a field of a record.
+It turns the names in specs/ and proofs/, in clauses, imports and comments of src/, in the must-fail edits, and in README, docs/DECISIONS.md and
+docs/WRONG_ANSWERS.md.
 """
 
 import os
@@ -35,13 +38,15 @@ def humps(name):
 
 
 def snake(name):
-    """In snake case; a dash stays between the names of two functions, as in 'length-drop'."""
+    """In snake case; dashes stay where all that they part are names of functions, as in 'length-drop'."""
     first, *others = (humps(part) for part in name.split("-"))
+    names = [first]
     for part in others:
-        before = first.split("-")[-1]
-        both = {before, part} <= functions | LOGIC
-        first += ("-" if both else "_") + part
-    return first
+        if {names[-1], part} <= functions | LOGIC:
+            names.append(part)
+        else:
+            names[-1] += "_" + part
+    return ("-" if set(names) <= functions | LOGIC else "_").join(names)
 
 
 def crates():
@@ -60,7 +65,9 @@ def antt_files(crate):
 
 
 def is_own_proof(path):
-    return os.path.basename(path) in ("Proof.antt", "Answers.antt", "Invariants.antt")
+    """A function's own proof lies in the function's folder; a file of lemmas right in proofs/ may have the same name."""
+    folder, name = os.path.split(path)
+    return name in ("Proof.antt", "Answers.antt", "Invariants.antt") and os.path.basename(folder) != "proofs"
 
 
 def read(path):
@@ -193,8 +200,10 @@ def main():
     camel = {n for n in table if re.search("[a-z0-9][A-Z]", n)}
     for path, text in rust.items():
         names = imported_in(text, own)[0] & set(table) | camel
-        with open(path, "w", encoding="utf-8") as f:
-            f.write(WORD.sub(lambda m: respelled(m.group(0)) if m.group(0) in names else m.group(0), text))
+        new = WORD.sub(lambda m: respelled(m.group(0)) if m.group(0) in names else m.group(0), text)
+        if new != text:
+            with open(path, "w", encoding="utf-8") as f:
+                f.write(new)
     pages = ["README.md", "docs/DECISIONS.md", "docs/WRONG_ANSWERS.md"]
     for crate in own:
         folder = os.path.join("crates", crate, "must-fail")

@@ -111,11 +111,11 @@ unsigned_more : (s : List ℕ) (d : ℕ) → is_unsigned s ≡ true → 0 < valu
 unfolding is_unsigned value value_from
 unsigned_more [] d p h q = absurd (false≢true p)
 unsigned_more (c ∷ s) d p h q =
-    ⊎_elim (λ w. absurd (zero-not_more w)) (λ w. unsigned_long c (s ++ (d ∷ [])) w.0 (rw (all_append is_digit (c ∷ s) (d ∷ []), w.1, q)))
+    ⊎_elim (λ w. absurd (zero_not_more w)) (λ w. unsigned_long c (s ++ (d ∷ [])) w.0 (rw (all_append is_digit (c ∷ s) (d ∷ []), w.1, q)))
     (unsigned_cases c s p)
   where
-    zero-not_more : (c ≡ 48) × (s ≡ []) → ⊥
-    zero-not_more w = let l : 0 < value_from 0 (48 ∷ []) = rw (w.0, w.1) at h in omega arith
+    zero_not_more : (c ≡ 48) × (s ≡ []) → ⊥
+    zero_not_more w = let l : 0 < value_from 0 (48 ∷ []) = rw (w.0, w.1) at h in omega arith
 
 pub digits_unsigned : (n : ℕ) → is_unsigned (digits n) ≡ true
 digits_unsigned =

@@ -32,8 +32,8 @@ not-walked s e z =
     omega arith
 
 module _ (s : List ℕ) (f : FieldSet) (e : walked edition_two s ≡ some f) where
-  pub walked-answer : reader_number edition_two s ≡ 0
-  walked-answer = go (eqb (reader_number edition_two s) 0) refl (sym e ∙ walk_agrees edition_two edition_two-sound s)
+  pub walked_answer : reader_number edition_two s ≡ 0
+  walked_answer = go (eqb (reader_number edition_two s) 0) refl (sym e ∙ walk_agrees edition_two edition_two-sound s)
     where
       go : (b : Bool) → eqb (reader_number edition_two s) 0 ≡ b → some f ≡ cond b (some (fields_of edition_two s)) none → reader_number edition_two s ≡ 0
       go true t q = eqb-true (reader_number edition_two s) 0 t
@@ -41,13 +41,13 @@ module _ (s : List ℕ) (f : FieldSet) (e : walked edition_two s ≡ some f) whe
 
   pub walked-fields : f ≡ fields_of edition_two s
   walked-fields =
-      let z = walked-answer in
+      let z = walked_answer in
       let q : some f ≡ some (fields_of edition_two s) = sym e ∙ walk_agrees edition_two edition_two-sound s ∙ rw z in
       cc
 
 -- nothing is found in a string that is longer than any permitted one
-pub walked-long : (s : List ℕ) → longest_permitted < length s → walked edition_two s ≡ none
-walked-long s h = walk_agrees edition_two edition_two-sound s ∙ go (eqb (reader_number edition_two s) 0) refl
+pub walked_long : (s : List ℕ) → longest_permitted < length s → walked edition_two s ≡ none
+walked_long s h = walk_agrees edition_two edition_two-sound s ∙ go (eqb (reader_number edition_two s) 0) refl
   where
     go : (b : Bool) → eqb (reader_number edition_two s) 0 ≡ b → cond b (some (fields_of edition_two s)) none ≡ none
     go true t =
@@ -57,16 +57,16 @@ walked-long s h = walk_agrees edition_two edition_two-sound s ∙ go (eqb (reade
 
 -- ---- the reader
 
-kind-lengths : (a b : List ℕ) → kind_for (length a) (length b) ≡ kind_of (write_bytes a) (write_bytes b)
-kind-lengths [] [] = refl
-kind-lengths [] (y ∷ b) = rw (ne_eqb (length (y ∷ b)) 0 (λ h. omega arith))
-kind-lengths (x ∷ a) [] = rw (ne_eqb (length (x ∷ a)) 0 (λ h. omega arith))
-kind-lengths (x ∷ a) (y ∷ b) = rw (ne_eqb (length (y ∷ b)) 0 (λ h. omega arith))
+kind_lengths : (a b : List ℕ) → kind_for (length a) (length b) ≡ kind_of (write_bytes a) (write_bytes b)
+kind_lengths [] [] = refl
+kind_lengths [] (y ∷ b) = rw (ne_eqb (length (y ∷ b)) 0 (λ h. omega arith))
+kind_lengths (x ∷ a) [] = rw (ne_eqb (length (x ∷ a)) 0 (λ h. omega arith))
+kind_lengths (x ∷ a) (y ∷ b) = rw (ne_eqb (length (y ∷ b)) 0 (λ h. omega arith))
 
 pub walked-reading : (s : List ℕ) (f : FieldSet) → walked edition_two s ≡ some f → (contents_of f).reading ≡ reading edition_two s
 walked-reading s f e =
     let (h, q) = walk_sound edition_two edition_two-sound s f e in
-    let k = kind-lengths f.salt f.output in
+    let k = kind_lengths f.salt f.output in
     (λ i. record { number = 0; kind = k i; fields = f.numbers }) ∙ sym (entries_agree_two.reads f h) ∙ ap (reading edition_two) q
 
 -- ---- all that a string carries
@@ -96,19 +96,19 @@ counted-bytes f out₀ out e =
     (l, rw (l, e, over_start out₀ (joined_bytes f)) (take-append_seam (joined_bytes f) (drop (length (joined_bytes f)) out₀)))
 
 module _ (s out₀ out : List ℕ) (c : Contents) (x : StoredAll (walked edition_two s) out₀ out c) where
-  pub found-reading : c.reading ≡ reading edition_two s
-  found-reading = ap (λ (y : Contents). y.reading) x.contents_are ∙ walked-reading s x.fields x.found
+  pub found_reading : c.reading ≡ reading edition_two s
+  found_reading = ap (λ (y : Contents). y.reading) x.contents_are ∙ walked-reading s x.fields x.found
 
-  pub found-room : total c ≤ length out
-  found-room =
+  pub found_room : total c ≤ length out
+  found_room =
       let b = counted-bytes x.fields out₀ out x.stored in
       let t : total c ≡ total (contents_of x.fields) = ap total x.contents_are in
       omega (arith, b.0, ap length x.stored ∙ length_over out₀ 0 (joined_bytes x.fields) (omega (arith, x.room)), x.room)
 
-  found-contents : c ≡ counted (reading edition_two s) (fields_of edition_two s)
-  found-contents =
+  found_contents : c ≡ counted (reading edition_two s) (fields_of edition_two s)
+  found_contents =
       let f = walked-fields s x.fields x.found in
-      let r = found-reading in
+      let r = found_reading in
       let a = x.contents_are in
       λ i. record {
         reading = r i;
@@ -125,8 +125,8 @@ module _ (s out₀ out : List ℕ) (c : Contents) (x : StoredAll (walked edition
       let f = walked-fields s x.fields x.found in
       let b : take (total c) out ≡ joined_bytes (fields_of edition_two s) =
       ap (λ (y : Contents). take (total y) out) x.contents_are ∙ (counted-bytes x.fields out₀ out x.stored).1 ∙ ap joined_bytes f in
-      let p = put_clear buf₀ at (joined_bytes (fields_of edition_two s)) (reader_number edition_two s) (walked-answer s x.fields x.found) in (
-        w.answer ∙ rw (p, b) (ap (λ (y : Contents). cond (eqb (put buf₀ at (joined_bytes (fields_of edition_two s))).number 0) y (refused_contents (put buf₀ at (joined_bytes (fields_of edition_two s))).number)) found-contents),
+      let p = put_clear buf₀ at (joined_bytes (fields_of edition_two s)) (reader_number edition_two s) (walked_answer s x.fields x.found) in (
+        w.answer ∙ rw (p, b) (ap (λ (y : Contents). cond (eqb (put buf₀ at (joined_bytes (fields_of edition_two s))).number 0) y (refused_contents (put buf₀ at (joined_bytes (fields_of edition_two s))).number)) found_contents),
         w.buffer ∙ rw (p, b),
       )
 
@@ -143,8 +143,8 @@ module _ (c : Contents) (out buf₀ : List ℕ) (at n number count : ℕ) (left 
   left_is : left ≡ (put buf₀ at (take (total c) out)).buffer
   left_is = ap (λ (o : Outcome). o.buffer) (e ∙ given)
 
-  pub store-full : (number ≡ 0 → ⊥) → (r : Contents) → r ≡ refused_contents number → StoredIs c out buf₀ at left r
-  store-full z r w = record { answer = rw (← number_is, ne_eqb number 0 z) w; buffer = left_is }
+  pub store_full : (number ≡ 0 → ⊥) → (r : Contents) → r ≡ refused_contents number → StoredIs c out buf₀ at left r
+  store_full z r w = record { answer = rw (← number_is, ne_eqb number 0 z) w; buffer = left_is }
 
-  pub store-done : number ≡ 0 → StoredIs c out buf₀ at left c
-  store-done z = record { answer = rw (← number_is, z); buffer = left_is }
+  pub store_done : number ≡ 0 → StoredIs c out buf₀ at left c
+  store_done z = record { answer = rw (← number_is, z); buffer = left_is }

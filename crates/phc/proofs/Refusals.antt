@@ -138,8 +138,8 @@ unfolding formatted
 not-empty f = omega arith
 
 -- so what was put has one, and the answer is not 0
-put-not_0 : (n : ℕ) (t : List ℕ) → (n ≡ 0 → 1 ≤ length t) → (buffer : List ℕ) → coded (put_after n buffer 0 t) ≡ 0 → ⊥
-put-not_0 n t h buffer z = go (eqb (put_after n buffer 0 t).number 0) refl z
+put_not_0 : (n : ℕ) (t : List ℕ) → (n ≡ 0 → 1 ≤ length t) → (buffer : List ℕ) → coded (put_after n buffer 0 t) ≡ 0 → ⊥
+put_not_0 n t h buffer z = go (eqb (put_after n buffer 0 t).number 0) refl z
   where
     go : (b : Bool) → eqb (put_after n buffer 0 t).number 0 ≡ b → cond b (100 * (put_after n buffer 0 t).count) (put_after n buffer 0 t).number ≡ 0 → ⊥
     go true e z =
@@ -150,12 +150,12 @@ put-not_0 n t h buffer z = go (eqb (put_after n buffer 0 t).number 0) refl z
 
 pub write_not_0 : (f : FieldSet) (buffer : List ℕ) → coded (writing edition_two f buffer 0) ≡ 0 → ⊥
 unfolding writing
-write_not_0 f = put-not_0 (writer_number edition_two f) (formatted edition_two f) (λ z. not-empty f)
+write_not_0 f = put_not_0 (writer_number edition_two f) (formatted edition_two f) (λ z. not-empty f)
 
 pub directory_write_not_0 : (f : FieldSet) (buffer : List ℕ) → coded (directory_writing edition_two f buffer 0) ≡ 0 → ⊥
 unfolding directory_writing
 directory_write_not_0 f =
-    put-not_0 (directory_writer_number edition_two f) (directory_formatted edition_two f) (λ z. omega (arith, text-length f (number_zero f z), not-empty f))
+    put_not_0 (directory_writer_number edition_two f) (directory_formatted edition_two f) (λ z. omega (arith, text-length f (number_zero f z), not-empty f))
 
 pub write_short_not_0 : (k : ℕ) (salt output buffer : List ℕ) → coded (short_writing edition_two k salt output buffer 0) ≡ 0 → ⊥
 write_short_not_0 k salt output buffer z =

@@ -11,7 +11,8 @@ pub fn show<W: Write>(out: &mut W, text: &[u8]) {
 }
 
 pub fn show_number<W: Write>(out: &mut W, n: u64) {
-    let _ = write!(out, "\t{n}");
+    show(out, b"\t");
+    let _ = write!(out, "{n}");
 }
 
 fn show_version<W: Write>(out: &mut W, v: Version) {

@@ -20,7 +20,8 @@ fn show<W: Write>(out: &mut W, text: &[u8]) {
 
 // A tab and a number.
 fn number<W: Write>(out: &mut W, n: u64) {
-    let _ = write!(out, "\t{n}");
+    show(out, b"\t");
+    let _ = write!(out, "{n}");
 }
 
 // The column at an index from 0; empty past the last.

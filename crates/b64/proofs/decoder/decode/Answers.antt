@@ -19,10 +19,7 @@ decode_all-requires-clause-text_in_bounds c =
     writer_room asked c.if-has_room.true
 
 pub decode_all-requires-clause-sextets : goal.decode_all-requires-clause-sextets
-decode_all-requires-clause-sextets c =
-    let asked : let a = c.args in Asked a.buf.now a.at (decode a.text.now) c.decoded_len-count.result.0 c.has_room.result = let a = c.args in
-    record { counted = c.decoded_len-count.ensures ∙ sym (length_decode a.text.now); answered = c.has_room.ensures } in
-    sextets_rule
+decode_all-requires-clause-sextets c = sextets_rule
 
 pub returns-then-has_room : goal.returns-then-has_room
 returns-then-has_room c =

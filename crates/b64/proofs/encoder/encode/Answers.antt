@@ -15,12 +15,7 @@ encode_all-requires-clause-bytes_in_bounds c =
     writer_room asked c.if-has_room.true
 
 pub encode_all-requires-clause-letters : goal.encode_all-requires-clause-letters
-encode_all-requires-clause-letters c =
-    let asked : let a = c.args in Asked a.buf.now a.at (encode a.bytes.now) c.encoded_len-count.result.0 c.has_room.result = record {
-      counted = omega (arith, length_encode c.args.bytes.now, c.encoded_len-count.ensures, c.well_formed.0.1);
-      answered = c.has_room.ensures;
-    } in
-    letters_rule
+encode_all-requires-clause-letters c = letters_rule
 
 pub returns-then-has_room : goal.returns-then-has_room
 returns-then-has_room c =

@@ -6,14 +6,14 @@ use Rattle.table.specs.Columns.{profile_in}
 use Rattle.fast_path.specs.WalkSteps.{roomy}
 use Rattle.fast_path.proofs.Chains.{walked_empty, walked_other, walked_id}
 use Rattle.fast_path.proofs.StringLaws.{roomy-two}
-use Rattle.fast_path.proofs.Answers.{walked-long}
+use Rattle.fast_path.proofs.Answers.{walked_long}
 use Rattle.fast_path.proofs.walk.walk_string.Goals as goal
 
 pub returns-then-s-eq0 : goal.returns-then-s-eq0
 returns-then-s-eq0 c = walked_empty _ _ c.if-s-eq0.true
 
 pub returns-then-s-gt-LONGEST_PERMITTED : goal.returns-then-s-gt-LONGEST_PERMITTED
-returns-then-s-gt-LONGEST_PERMITTED c = walked-long _ c.if-s-gt-LONGEST_PERMITTED.true
+returns-then-s-gt-LONGEST_PERMITTED c = walked_long _ c.if-s-gt-LONGEST_PERMITTED.true
 
 pub returns-then-s-ne36 : goal.returns-then-s-ne36
 returns-then-s-ne36 c = walked_other _ _ c.if-s-eq0.false c.if-s-ne36.true
