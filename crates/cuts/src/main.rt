@@ -3,12 +3,11 @@
 // from this code.
 #![tactic(auto)]
 
-ghost use Rattle.std.specs.Prelude.{◌≤◌, length};
-
 use accounts::limits::MOST_KEPT;
 use accounts::row::write_header;
 use grammar::places::{Span, part};
-use std::io::{Read, Write};
+use readers::read_full;
+use std::io::Write;
 use stream::rows::{State, finish, take_part};
 use text::units::Chars;
 
@@ -75,31 +74,6 @@ fn list<W: Write>(writer: &mut W, text: &[u8]) {
     finish(writer, &array, out, state);
 }
 
-// Fills a buffer from its start, as far as the input goes or can be read.
-fn fill<R: Read>(reader: &mut R, buf: &mut [u8]) -> usize
-    ensures { result ≤ length buf.new }
-{
-    let mut done: usize = 0;
-    while done < buf.len() {
-        let got = read_some(reader, &mut buf[done..]);
-        if got == 0 {
-            return done;
-        }
-        done += got;
-    }
-    done
-}
-
-// One read; 0 where the input ended or can't be read.
-fn read_some<R: Read>(reader: &mut R, buf: &mut [u8]) -> usize
-    ensures { result ≤ length buf.new }
-{
-    match reader.read(buf) {
-        Ok(n) => n,
-        Err(_) => 0,
-    }
-}
-
 // Made in a function of its own: a proof writes an array out wherever it is made.
 fn space() -> [u8; 524288] {
     [0u8; 524288]
@@ -108,7 +82,7 @@ fn space() -> [u8; 524288] {
 fn main(rt: HostRuntime) {
     let mut out = rt.stdout();
     let mut input = space();
-    let n = fill(&mut rt.stdin(), &mut input);
+    let n = read_full(&mut rt.stdin(), &mut input);
     if n <= input.len() {
         list(&mut out, &input[0..n]);
     }

@@ -1,7 +1,9 @@
 // Standard input, whole in one array.
-ghost use Rattle.std.specs.Prelude.{◌≤◌, length};
+ghost use Rattle.std.specs.Prelude.{◌≤◌, length, take};
+ghost use Rattle.std.specs.Io.KnownBytes.{Consumes};
 
 use crate::show::show;
+use readers::read_full;
 use std::io::{Read, Write};
 use text::units::Bytes;
 
@@ -10,29 +12,12 @@ pub fn space() -> [u8; 262144] {
     [0u8; 262144]
 }
 
-// Fills a buffer from its start, as far as the input goes or can be read.
+// Fills a buffer from its start, as far as the input goes or can be read. The bytes that it counts are those that the reader had next.
 pub fn read_input<R: Read>(reader: &mut R, buf: &mut [u8]) -> Bytes
-    ensures { result.0 ≤ length buf.new }
+    ensures bound { result.0 ≤ length buf.new }
+    ensures bytes { Consumes (R.remaining reader.old) (R.remaining reader.new) (take result.0 buf.new) }
 {
-    let mut done: usize = 0;
-    while done < buf.len() {
-        let got = read_some(reader, &mut buf[done..]);
-        if got == 0 {
-            return Bytes(done);
-        }
-        done += got;
-    }
-    Bytes(done)
-}
-
-// One read; 0 where the input ended or can't be read.
-fn read_some<R: Read>(reader: &mut R, buf: &mut [u8]) -> usize
-    ensures { result ≤ length buf.new }
-{
-    match reader.read(buf) {
-        Ok(n) => n,
-        Err(_) => 0,
-    }
+    Bytes(read_full(reader, buf))
 }
 
 // Says so where the input fills the buffer: rows left out must not pass for rows that agree.

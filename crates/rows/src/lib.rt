@@ -1,5 +1,5 @@
 // What the programs of known answers share: rows from standard input, the columns of a row, and answers on standard output. The contracts
-// determine what a row's columns hold; of what is read and written they say only that a count lies in its buffer.
+// determine what a row's columns hold; of what is written they say nothing.
 #![tactic(auto)]
 
 pub mod buffer;

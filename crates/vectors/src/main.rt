@@ -4,12 +4,11 @@
 // Columns: encode, decode or number, text, place; range, text, low, high; string or places, text.
 #![tactic(auto)]
 
-ghost use Rattle.std.specs.Prelude.{◌≤◌, length};
-
 use decimal::reader::{Limited, read_decimal, read_within};
 use grammar::parts::{item_name, item_value, piece};
 use grammar::places::{Piece, Span};
-use std::io::{Read, Write};
+use readers::read_full;
+use std::io::Write;
 use text::lines::{after_line, line_at};
 use text::scan::nth_part;
 
@@ -158,31 +157,6 @@ fn rows<W: Write>(out: &mut W, text: &[u8]) {
     }
 }
 
-// Fills a buffer from its start, as far as the input goes or can be read.
-fn fill<R: Read>(reader: &mut R, buf: &mut [u8]) -> usize
-    ensures { result ≤ length buf.new }
-{
-    let mut done: usize = 0;
-    while done < buf.len() {
-        let got = read_some(reader, &mut buf[done..]);
-        if got == 0 {
-            return done;
-        }
-        done += got;
-    }
-    done
-}
-
-// One read; 0 where the input ended or can't be read.
-fn read_some<R: Read>(reader: &mut R, buf: &mut [u8]) -> usize
-    ensures { result ≤ length buf.new }
-{
-    match reader.read(buf) {
-        Ok(n) => n,
-        Err(_) => 0,
-    }
-}
-
 // Made in a function of its own: a proof writes an array out wherever it is made.
 fn space() -> [u8; 262144] {
     [0u8; 262144]
@@ -191,7 +165,7 @@ fn space() -> [u8; 262144] {
 fn main(rt: HostRuntime) {
     let mut out = rt.stdout();
     let mut input = space();
-    let n = fill(&mut rt.stdin(), &mut input);
+    let n = read_full(&mut rt.stdin(), &mut input);
     if n <= input.len() {
         rows(&mut out, &input[0..n]);
     }
