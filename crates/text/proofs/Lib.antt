@@ -15,5 +15,6 @@ pub mod Writers
 pub mod Groups
 pub mod Splitting
 pub mod Joining
+pub mod Library
 pub mod Sums
 pub mod LittleEndian

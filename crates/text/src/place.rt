@@ -34,11 +34,7 @@ fn copy_text(text: &[u8], out: &mut [u8])
     requires { length text.now ≤ length out.old }
     ensures { out.new ≡ over out.old 0 text.now }
 {
-    let mut i = 0;
-    while i < text.len() {
-        out[i] = text[i];
-        i += 1;
-    }
+    out[..text.len()].copy_from_slice(text);
 }
 
 // A text into `buf` from `at` on. 17: it doesn't fit.

@@ -16,12 +16,6 @@ impl Chars {
     pub fn plus(self, more: Chars) -> Chars
         ensures { result.0 ≡ sum_within self.0 more.0 }
     {
-        let a = self.0;
-        let b = more.0;
-        if a <= 0xffff_ffff_ffff_ffff - b {
-            Chars(a + b)
-        } else {
-            Chars(0xffff_ffff_ffff_ffff)
-        }
+        Chars(self.0.saturating_add(more.0))
     }
 }
