@@ -7,8 +7,9 @@ use mathlib.Core.List.{List, [], ◌∷◌, map}
 use Rattle.text.specs.Text.{text}
 use Rattle.decimal.specs.Decimal.{is_digit, is_unsigned, value_from, value, is_decimal, decimal_value}
 use Rattle.decimal.specs.Numerals.{numeral, decimal_reading, limited_reading}
-use Rattle.decimal.specs.declared.reader.Limited.{Limited}
-use Rattle.decimal.specs.declared.reader.Limited.TheVariants.{Malformed, Outside, Value}
+use Rattle.decimal.specs.declared.error.DecimalError.{DecimalError}
+use Rattle.decimal.specs.declared.error.DecimalError.TheVariants.{Malformed, Outside}
+use Rattle.std.specs.Prelude.{Result, Ok, Err}
 
 -- each text with its number
 vectors : List (String × ℕ)
@@ -37,18 +38,18 @@ unfolding vectors numeral is_decimal decimal_value is_unsigned is_digit value va
 numbers = refl
 
 -- each text as a number of 0 to 4294967295
-limits : List (String × Limited)
+limits : List (String × Result ℕ DecimalError)
 limits =
-    ("-", Malformed)
-    ∷ ("-0", Malformed)
-    ∷ ("05", Malformed)
-    ∷ ("-5", Outside)
-    ∷ ("0", Value 0)
-    ∷ ("4294967295", Value 4294967295)
-    ∷ ("4294967296", Outside)
-    ∷ ("1234567890123456789012345678901234567890123456789012345678901234567890123456789012345678901234567890", Outside)
+    ("-", Err Malformed)
+    ∷ ("-0", Err Malformed)
+    ∷ ("05", Err Malformed)
+    ∷ ("-5", Err Outside)
+    ∷ ("0", Ok 0)
+    ∷ ("4294967295", Ok 4294967295)
+    ∷ ("4294967296", Err Outside)
+    ∷ ("1234567890123456789012345678901234567890123456789012345678901234567890123456789012345678901234567890", Err Outside)
     ∷ []
 
-readings : map (λ (v : String × Limited). limited_reading 0 4294967295 (text v.0)) limits ≡ map (λ (v : String × Limited). v.1) limits
+readings : map (λ (v : String × Result ℕ DecimalError). limited_reading 0 4294967295 (text v.0)) limits ≡ map (λ (v : String × Result ℕ DecimalError). v.1) limits
 unfolding limits limited_reading numeral is_decimal decimal_value is_unsigned is_digit value value_from
 readings = refl

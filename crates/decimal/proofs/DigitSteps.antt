@@ -14,7 +14,7 @@ use Rattle.text.specs.Text.{all}
 use Rattle.text.proofs.Lists.{drop-set-same}
 use Rattle.decimal.specs.Decimal.{is_digit, is_unsigned, value_from, digits}
 use Rattle.decimal.specs.DecimalSteps.{up_to}
-use Rattle.decimal.specs.declared.reader.Limited.TheVariants.{Outside, Value}
+use Rattle.std.specs.Prelude.{Some, None}
 use Rattle.decimal.proofs.DecimalLaws.{digits_small, digits_step, length_small, length_step, length_pos}
 
 -- ---- an unsigned decimal, by its first byte
@@ -53,13 +53,13 @@ value_grows (c ∷ s) n = omega (arith, value_grows s (n * 10 + (c - 48)))
 
 -- one digit more passes the limit, so the whole does
 pub is_outside : (s : List ℕ) (i n limit : ℕ) {v : ℕ} → i < length s → value_from n (drop i s) ≡ v
-    → limit < n * 10 + (get_or s i 0 - 48) → Outside ≡ up_to limit v
+    → limit < n * 10 + (get_or s i 0 - 48) → None ≡ up_to limit v
 unfolding up_to
 is_outside s i n limit {v} h e l =
     let g = value_grows (drop (i + 1) s) (n * 10 + (get_or s i 0 - 48)) in
     rw (lt-leb v limit (omega (arith, sym e ∙ value-next s i n h)))
 
-pub is_value_lem : (limit n v : ℕ) → n ≤ limit → n ≡ v → Value n ≡ up_to limit v
+pub is_value_lem : (limit n v : ℕ) → n ≤ limit → n ≡ v → Some n ≡ up_to limit v
 unfolding up_to
 is_value_lem limit n v h e = rw (← e, le-leb n limit h)
 

@@ -13,8 +13,9 @@ use Rattle.text.specs.Text.{all}
 use Rattle.text.proofs.Tests.{both, either, from_within, to_within}
 use Rattle.decimal.specs.Decimal.{is_digit, is_unsigned, value, digits, is_decimal, decimal_value, decimal_text}
 use Rattle.decimal.specs.Numerals.{Numeral, malformed, outside, number, between, numeral, least, greatest, signed, decimal_answer, decimal_reading, limited, limited_reading, limited_number, limited_value}
-use Rattle.decimal.specs.declared.reader.Limited.{Limited}
-use Rattle.decimal.specs.declared.reader.Limited.TheVariants.{Malformed, Outside, Value}
+use Rattle.decimal.specs.declared.error.DecimalError.{DecimalError}
+use Rattle.decimal.specs.declared.error.DecimalError.TheVariants.{Malformed, Outside}
+use Rattle.std.specs.Prelude.{Result, Ok, Err}
 use Rattle.decimal.proofs.DecimalLaws.{digit_bounds, unsigned_cases, value-digits, digits_unsigned, digits_value}
 
 -- ---- texts
@@ -74,15 +75,15 @@ text_numeral low high s z e = go (is_decimal s) (between low high (decimal_value
     go false r p q f = let n : ◌≡◌ {A = ℕ} 0 1 = cc in absurd (omega arith)
 
 -- the reader over a limit
-pub limited_digits : (low high n : ℕ) → low ≤ n → n ≤ high → limited_reading low high (digits n) ≡ Value n
+pub limited_digits : (low high n : ℕ) → low ≤ n → n ≤ high → limited_reading low high (digits n) ≡ Ok n
 unfolding limited_reading decimal_text
 limited_digits low high n l h = ap limited (numeral_text (pos low) (pos high) (pos n) (to_within low high n l h))
 
-pub digits_limited : (low high : ℕ) (s : List ℕ) (n : ℕ) → limited_reading low high s ≡ Value n → (s ≡ digits n) × (low ≤ n) × (n ≤ high)
+pub digits_limited : (low high : ℕ) (s : List ℕ) (n : ℕ) → limited_reading low high s ≡ Ok n → (s ≡ digits n) × (low ≤ n) × (n ≤ high)
 unfolding limited_reading decimal_text
 digits_limited low high s n e = go (numeral (pos low) (pos high) s) refl e
   where
-    go : (r : Numeral) → numeral (pos low) (pos high) s ≡ r → limited r ≡ Value n → (s ≡ digits n) × (low ≤ n) × (n ≤ high)
+    go : (r : Numeral) → numeral (pos low) (pos high) s ≡ r → limited r ≡ Ok n → (s ≡ digits n) × (low ≤ n) × (n ≤ high)
     go malformed p f = let z : ◌≡◌ {A = ℕ} 0 1 = cc in absurd (omega arith)
     go outside p f = let z : ◌≡◌ {A = ℕ} 0 1 = cc in absurd (omega arith)
     go (number (pos m)) p f =
@@ -107,7 +108,7 @@ back_decimal s e = go (numeral least greatest s) refl e
 pub limited_zero : (low high : ℕ) (s : List ℕ) → limited_number (limited_reading low high s) ≡ 0 → s ≡ digits (limited_value (limited_reading low high s))
 limited_zero low high s z = go (limited_reading low high s) refl z
   where
-    go : (r : Limited) → limited_reading low high s ≡ r → limited_number r ≡ 0 → s ≡ digits (limited_value r)
-    go Malformed e z = absurd (omega arith)
-    go Outside e z = absurd (omega arith)
-    go (Value n) e z = (digits_limited low high s n e).0
+    go : (r : Result ℕ DecimalError) → limited_reading low high s ≡ r → limited_number r ≡ 0 → s ≡ digits (limited_value r)
+    go (Err Malformed) e z = absurd (omega arith)
+    go (Err Outside) e z = absurd (omega arith)
+    go (Ok n) e z = (digits_limited low high s n e).0

@@ -21,9 +21,10 @@ use Rattle.text.proofs.Tests.{either}
 use Rattle.decimal.specs.Decimal.{is_unsigned, value, digits, is_decimal, decimal_value, decimal_text}
 use Rattle.decimal.specs.Numerals.{Numeral, malformed, outside, number, between, numeral, least, signed}
 use Rattle.decimal.specs.DecimalSteps.{up_to, unsigned_reading, plain, minus, complement_of}
-use Rattle.decimal.specs.declared.reader.Limited.{Limited}
-use Rattle.decimal.specs.declared.reader.Limited.TheVariants.{Malformed, Outside, Value}
-use Rattle.decimal.specs.declared.signs.Signed.TheVariants.{Malformed as Signed-as-Malformed, Number}
+use Rattle.decimal.specs.declared.error.DecimalError.{DecimalError}
+use Rattle.decimal.specs.declared.error.DecimalError.TheVariants.{Malformed, Outside}
+use Rattle.std.specs.Prelude.{Some, None, Result, Ok, Err}
+use Rattle.std.specs.Option.{ok_or}
 
 -- ---- one operation at a time
 
@@ -94,28 +95,28 @@ put-minus (c ∷ buf) text h = rw one-add
 -- ---- a text read over any range, by its sign and the reading of its digits
 
 -- the number that was read is within the limit
-pub read_most : (limit : ℕ) (s : List ℕ) (n : ℕ) → unsigned_reading limit s ≡ Value n → n ≤ limit
+pub read_most : (limit : ℕ) (s : List ℕ) (n : ℕ) → unsigned_reading limit s ≡ Ok n → n ≤ limit
 unfolding unsigned_reading up_to
 read_most limit s n e = go (is_unsigned s) (leb (value s) limit) refl e
   where
-    go : (a b : Bool) → leb (value s) limit ≡ b → cond a (cond b (Value (value s)) Outside) Malformed ≡ Value n → n ≤ limit
+    go : (a b : Bool) → leb (value s) limit ≡ b → cond a (ok_or (cond b (Some (value s)) None) Outside) (Err Malformed) ≡ Ok n → n ≤ limit
     go true true t f = let m : value s ≡ n = cc in omega (arith, leb-true (value s) limit t)
     go true false t f = let z : ◌≡◌ {A = ℕ} 0 1 = cc in absurd (omega arith)
     go false b t f = let z : ◌≡◌ {A = ℕ} 0 1 = cc in absurd (omega arith)
 
 -- without a sign, and after a minus sign
-abbrev pub from_plain : ℤ → Limited → Numeral
-from_plain low Malformed = malformed
-from_plain low Outside = outside
-from_plain low (Value n) = cond (le_z low (pos n)) (number (pos n)) outside
+abbrev pub from_plain : ℤ → Result ℕ DecimalError → Numeral
+from_plain low (Err Malformed) = malformed
+from_plain low (Err Outside) = outside
+from_plain low (Ok n) = cond (le_z low (pos n)) (number (pos n)) outside
 
-abbrev pub from_minus : Limited → Numeral
-from_minus Malformed = malformed
-from_minus Outside = outside
-from_minus (Value n) = cond (eqb n 0) malformed (number (neg_ℤ (pos n)))
+abbrev pub from_minus : Result ℕ DecimalError → Numeral
+from_minus (Err Malformed) = malformed
+from_minus (Err Outside) = outside
+from_minus (Ok n) = cond (eqb n 0) malformed (number (neg_ℤ (pos n)))
 
 within-plain : (low : ℤ) (high : ℕ) (t : Bool) (v : ℕ)
-    → from_plain low (cond t (up_to high v) Malformed) ≡ cond t (cond (between low (pos high) (pos v)) (number (pos v)) outside) malformed
+    → from_plain low (cond t (ok_or (up_to high v) Outside) (Err Malformed)) ≡ cond t (cond (between low (pos high) (pos v)) (number (pos v)) outside) malformed
 unfolding up_to
 within-plain low high false v = refl
 within-plain low high true v =
@@ -124,7 +125,7 @@ within-plain low high true v =
 -- `most` is how far below 0 the range goes
 module _ (low : ℤ) (most : ℕ) (down : (n : ℕ) → le_z low (negsuc n) ≡ leb (suc n) most) (high : ℕ) where
   within-minus : (t : Bool) (v : ℕ)
-      → from_minus (cond t (up_to most v) Malformed)
+      → from_minus (cond t (ok_or (up_to most v) Outside) (Err Malformed))
       ≡ cond (t && not (eqb v 0)) (cond (between low (pos high) (neg_ℤ (pos v))) (number (neg_ℤ (pos v))) outside) malformed
   unfolding up_to
   within-minus false v = refl
@@ -153,24 +154,24 @@ numeral-plain low high (c ∷ s) h l = rw (ne_eqb c 45 l) (within-plain low high
 
 -- ---- the signed reader, and the reader over a limit
 
-pub signed-plain : (r : Limited) → plain r ≡ signed (from_plain least r)
-signed-plain Malformed = refl
-signed-plain Outside = refl
-signed-plain (Value n) = refl
+pub signed-plain : (r : Result ℕ DecimalError) → plain r ≡ signed (from_plain least r)
+signed-plain (Err Malformed) = refl
+signed-plain (Err Outside) = refl
+signed-plain (Ok n) = refl
 
-pub signed-minus : (r : Limited) → minus r ≡ signed (from_minus r)
-signed-minus Malformed = refl
-signed-minus Outside = refl
-signed-minus (Value n) = go (eqb n 0)
+pub signed-minus : (r : Result ℕ DecimalError) → minus r ≡ signed (from_minus r)
+signed-minus (Err Malformed) = refl
+signed-minus (Err Outside) = refl
+signed-minus (Ok n) = go (eqb n 0)
   where
-    go : (b : Bool) → cond b Signed-as-Malformed (Number (neg_ℤ (pos n))) ≡ signed (cond b malformed (number (neg_ℤ (pos n))))
+    go : (b : Bool) → cond b (Err Malformed) (Ok (neg_ℤ (pos n))) ≡ signed (cond b malformed (number (neg_ℤ (pos n))))
     go true = refl
     go false = refl
 
-pub minus-zero : (n : ℕ) → n ≡ 0 → minus (Value n) ≡ Signed-as-Malformed
+pub minus-zero : (n : ℕ) → n ≡ 0 → minus (Ok n) ≡ Err Malformed
 minus-zero n e = rw (eq-eqb n 0 e)
 
-pub minus_other : (n : ℕ) → (n ≡ 0 → ⊥) → minus (Value n) ≡ Number (neg_ℤ (pos n))
+pub minus_other : (n : ℕ) → (n ≡ 0 → ⊥) → minus (Ok n) ≡ Ok (neg_ℤ (pos n))
 minus_other n h = rw (ne_eqb n 0 h)
 
 -- how far below 0 the ranges go
@@ -181,5 +182,5 @@ pub down_none : (low n : ℕ) → le_z (pos low) (negsuc n) ≡ leb (suc n) 0
 down_none low n = sym (lt-leb (suc n) 0 (omega arith))
 
 -- after a minus sign, a number that is not past 0 is none
-pub minus-none : (s : List ℕ) (n : ℕ) → unsigned_reading 0 s ≡ Value n → from_minus (Value n) ≡ malformed
+pub minus-none : (s : List ℕ) (n : ℕ) → unsigned_reading 0 s ≡ Ok n → from_minus (Ok n) ≡ malformed
 minus-none s n e = rw (eq-eqb n 0 (omega (arith, read_most 0 s n e)))

@@ -1,9 +1,8 @@
 -- What is proved of the definitions, over every text: proofs/Claims.antt has a value of the record.
 -- Assumes nothing.
-use Rattle.std.specs.Prelude.{ℕ, ◌≤◌, ◌≡◌, true, List, ℤ}
+use Rattle.std.specs.Prelude.{ℕ, ◌≤◌, ◌≡◌, true, List, ℤ, Ok}
 use Rattle.decimal.specs.Decimal.{digits, decimal_text}
 use Rattle.decimal.specs.Numerals.{number, between, numeral, least, greatest, decimal_reading, limited_reading, limited_number, limited_value}
-use Rattle.decimal.specs.declared.reader.Limited.TheVariants.{Value}
 
 pub record DecimalClaims : Type 0 where
   -- reader and writer undo each other over the whole signed range
@@ -13,7 +12,7 @@ pub record DecimalClaims : Type 0 where
   pub numeral_text : (low high z : ℤ) → between low high z ≡ true → numeral low high (decimal_text z) ≡ number z
   pub text_numeral : (low high : ℤ) (s : List ℕ) (z : ℤ) → numeral low high s ≡ number z → (s ≡ decimal_text z) × (between low high z ≡ true)
   -- and so over a range of natural numbers
-  pub limited_digits : (low high n : ℕ) → low ≤ n → n ≤ high → limited_reading low high (digits n) ≡ Value n
-  pub digits_limited : (low high : ℕ) (s : List ℕ) (n : ℕ) → limited_reading low high s ≡ Value n → (s ≡ digits n) × (low ≤ n) × (n ≤ high)
+  pub limited_digits : (low high n : ℕ) → low ≤ n → n ≤ high → limited_reading low high (digits n) ≡ Ok n
+  pub digits_limited : (low high : ℕ) (s : List ℕ) (n : ℕ) → limited_reading low high s ≡ Ok n → (s ≡ digits n) × (low ≤ n) × (n ≤ high)
   -- where the number is 0, the text is that of the value
   pub limited_zero : (low high : ℕ) (s : List ℕ) → limited_number (limited_reading low high s) ≡ 0 → s ≡ digits (limited_value (limited_reading low high s))

@@ -1,8 +1,7 @@
 // Decimals: `0`, or a digit 1 to 9 and any further digits, or a minus sign before such a number other than 0.
 #![tactic(auto)]
 
-mod digits;
-pub mod numbers;
+pub mod error;
 pub mod reader;
 mod signs;
 pub mod writer;

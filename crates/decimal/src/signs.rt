@@ -1,14 +1,6 @@
-// Decimals with a sign, inside: what a reader finds, and a step between numbers with and without a sign.
+// A step between numbers with and without a sign.
 ghost use Rattle.std.specs.Prelude.{◌≡◌};
 ghost use Rattle.decimal.specs.DecimalSteps.{complement_of};
-
-// A text read as a signed decimal: no decimal, one outside i64, or its number.
-#[derive(Clone, Copy)]
-pub enum Signed {
-    Malformed,
-    Outside,
-    Number(i64),
-}
 
 // -1 - x, which fits for every x: 0 and -1, 1 and -2, .. change places.
 pub fn complement(x: i64) -> i64

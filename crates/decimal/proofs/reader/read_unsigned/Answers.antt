@@ -1,5 +1,5 @@
 -- `decimal::reader::read_unsigned` meets its contract, by the two callees'. Assumes nothing.
-use mathlib.Core.Path.{sym, ◌∙◌}
+use Rattle.std.proofs.Common.{sym, ◌∙◌}
 use Rattle.decimal.specs.DecimalSteps.{unsigned_reading}
 use Rattle.decimal.proofs.reader.read_unsigned.Goals as goal
 
@@ -9,4 +9,4 @@ returns-then-not-is_unsigned c = rw (sym c.is_unsigned.ensures ∙ c.if-not-is_u
 
 pub returns : goal.returns
 unfolding unsigned_reading
-returns c = rw (sym c.is_unsigned.ensures ∙ c.if-not-is_unsigned.false) c.value_up_to.ensures
+returns c = rw (sym c.is_unsigned.ensures ∙ c.if-not-is_unsigned.false, c.ok_or.ensures.value, c.value_up_to.ensures)

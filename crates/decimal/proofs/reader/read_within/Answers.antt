@@ -1,77 +1,69 @@
 -- `decimal::reader::read_within` meets its contract: by the first byte, and by what the unsigned reader answered. Assumes nothing.
-use mathlib.Core.Path.{◌≡◌, sym, ap, ◌∙◌}
+use Rattle.std.proofs.Common.{rules, ◌≡◌, sym, ap, ◌∙◌, arith, ℕ, List, length, get_or, drop, pos, Result, Ok, Err, refl}
 use borrow.Author.Tests.{le-leb, lt-leb}
-use lib.IntN.{pos}
 use Rattle.text.proofs.Writing.{tail_part}
 use Rattle.decimal.specs.Numerals.{limited, limited_reading}
 use Rattle.decimal.specs.DecimalSteps.{unsigned_reading}
-use Rattle.decimal.specs.declared.reader.Limited.{Limited}
+use Rattle.decimal.specs.declared.error.DecimalError.{DecimalError}
+use Rattle.decimal.specs.declared.error.DecimalError.TheVariants.{Malformed, Outside}
 use Rattle.decimal.proofs.SignSteps.{from_minus, from_plain, numeral-none, numeral-minus, numeral-plain, minus-none, down_none}
 use Rattle.decimal.proofs.reader.read_within.Goals as goal
 
-pub returns-then-text-eq0 : goal.returns-then-text-eq0
+-- after a minus sign, and without one
+after_minus : (low high : ℕ) (s : List ℕ) → (length s ≡ 0 → ⊥) → get_or s 0 0 ≡ 45
+    → (r : Result ℕ DecimalError) → r ≡ unsigned_reading 0 (drop 1 s) → limited (from_minus r) ≡ limited_reading low high s
 unfolding limited_reading
-returns-then-text-eq0 c = ap limited (sym (numeral-none _ _ _ c.if-text-eq0.true))
+after_minus low high s h m r e = ap (λ q. limited (from_minus q)) e ∙ ap limited (numeral-minus (pos low) 0 (down_none low) high s h m)
 
-pub returns-in-Malformed : goal.returns-in-Malformed
+without : (low high : ℕ) (s : List ℕ) → (length s ≡ 0 → ⊥) → (get_or s 0 0 ≡ 45 → ⊥)
+    → (r : Result ℕ DecimalError) → r ≡ unsigned_reading high s → limited (from_plain (pos low) r) ≡ limited_reading low high s
 unfolding limited_reading
-returns-in-Malformed c =
-    let answer : Limited = limited_reading c.args.low c.args.high c.args.text.now in
-    let after_minus : (r : Limited) → c.read_unsigned.result ≡ r → limited (from_minus r) ≡ answer = (λ r e. let a = c.args in
-    ap (λ q. limited (from_minus q)) (sym e ∙ c.read_unsigned.ensures ∙ ap (unsigned_reading 0) (tail_part a.text.now 1))
-    ∙ ap limited (numeral-minus (pos a.low) 0 (down_none a.low) a.high a.text.now c.if-text-eq0.false c.if-text-eq45.true)) in
-    after_minus _ c.in-Malformed.is
+without low high s h m r e = ap (λ q. limited (from_plain (pos low) q)) e ∙ ap limited (numeral-plain (pos low) high s h m)
 
-pub returns-in-Outside : goal.returns-in-Outside
-unfolding limited_reading
-returns-in-Outside c =
-    let answer : Limited = limited_reading c.args.low c.args.high c.args.text.now in
-    let after_minus : (r : Limited) → c.read_unsigned.result ≡ r → limited (from_minus r) ≡ answer = (λ r e. let a = c.args in
-    ap (λ q. limited (from_minus q)) (sym e ∙ c.read_unsigned.ensures ∙ ap (unsigned_reading 0) (tail_part a.text.now 1))
-    ∙ ap limited (numeral-minus (pos a.low) 0 (down_none a.low) a.high a.text.now c.if-text-eq0.false c.if-text-eq45.true)) in
-    after_minus _ c.in-Outside.is
+-- a refusal is handed on
+minus-err : (e : DecimalError) → limited (from_minus (Err e)) ≡ Err e
+minus-err Malformed = refl
+minus-err Outside = refl
 
-pub returns-in-Value : goal.returns-in-Value
-unfolding limited_reading
-returns-in-Value c =
-    let answer : Limited = limited_reading c.args.low c.args.high c.args.text.now in
-    let after_minus : (r : Limited) → c.read_unsigned.result ≡ r → limited (from_minus r) ≡ answer = (λ r e. let a = c.args in
-    ap (λ q. limited (from_minus q)) (sym e ∙ c.read_unsigned.ensures ∙ ap (unsigned_reading 0) (tail_part a.text.now 1))
-    ∙ ap limited (numeral-minus (pos a.low) 0 (down_none a.low) a.high a.text.now c.if-text-eq0.false c.if-text-eq45.true)) in
-    sym (ap limited (minus-none _ _ (sym c.read_unsigned.ensures ∙ c.in-Value.is))) ∙ after_minus _ c.in-Value.is
+plain-err : (low : ℕ) (e : DecimalError) → limited (from_plain (pos low) (Err e)) ≡ Err e
+plain-err low Malformed = refl
+plain-err low Outside = refl
 
-pub returns-in-Malformed-read_unsigned : goal.returns-in-Malformed-read_unsigned
+pub returns-in-empty : goal.returns-in-empty
 unfolding limited_reading
-returns-in-Malformed-read_unsigned c =
-    let answer : Limited = limited_reading c.args.low c.args.high c.args.text.now in
-    let without : (r : Limited) → c.read_unsigned-2.result ≡ r → limited (from_plain (pos c.args.low) r) ≡ answer = (λ r e. let a = c.args in
-    ap (λ q. limited (from_plain (pos a.low) q)) (sym e ∙ c.read_unsigned-2.ensures)
-    ∙ ap limited (numeral-plain (pos a.low) a.high a.text.now c.if-text-eq0.false c.if-text-eq45.false)) in
-    without _ c.in-Malformed-read_unsigned.is
+returns-in-empty c = ap limited (sym (numeral-none _ _ _ (omega arith)))
 
-pub returns-in-Outside-read_unsigned : goal.returns-in-Outside-read_unsigned
-unfolding limited_reading
-returns-in-Outside-read_unsigned c =
-    let answer : Limited = limited_reading c.args.low c.args.high c.args.text.now in
-    let without : (r : Limited) → c.read_unsigned-2.result ≡ r → limited (from_plain (pos c.args.low) r) ≡ answer = (λ r e. let a = c.args in
-    ap (λ q. limited (from_plain (pos a.low) q)) (sym e ∙ c.read_unsigned-2.ensures)
-    ∙ ap limited (numeral-plain (pos a.low) a.high a.text.now c.if-text-eq0.false c.if-text-eq45.false)) in
-    without _ c.in-Outside-read_unsigned.is
+pub returns-in_err-read_unsigned-in-45 : goal.returns-in_err-read_unsigned-in-45
+returns-in_err-read_unsigned-in-45 c =
+    let a = c.args in
+    let z : get_or a.text.now 0 0 ≡ 45 = omega arith in
+    let r = c.in_err-read_unsigned-in-45 in
+    let e : Err r.field-0.0 ≡ unsigned_reading 0 (drop 1 a.text.now) = r.ensures ∙ ap (unsigned_reading 0) (tail_part a.text.now 1) in
+    let q : c.from_residual.result ≡ Err r.field-0.0 = search rules in
+    q ∙ sym (minus-err r.field-0.0) ∙ after_minus a.low a.high a.text.now (λ e. omega arith) z (Err r.field-0.0) e
 
-pub returns-then-low-n : goal.returns-then-low-n
-unfolding limited_reading
-returns-then-low-n c =
-    let answer : Limited = limited_reading c.args.low c.args.high c.args.text.now in
-    let without : (r : Limited) → c.read_unsigned-2.result ≡ r → limited (from_plain (pos c.args.low) r) ≡ answer = (λ r e. let a = c.args in
-    ap (λ q. limited (from_plain (pos a.low) q)) (sym e ∙ c.read_unsigned-2.ensures)
-    ∙ ap limited (numeral-plain (pos a.low) a.high a.text.now c.if-text-eq0.false c.if-text-eq45.false)) in
-    rw (le-leb _ _ c.if-low-n.true) at (without _ c.in-Value-read_unsigned.is)
+pub returns-in_ok-read_unsigned-in-45 : goal.returns-in_ok-read_unsigned-in-45
+returns-in_ok-read_unsigned-in-45 c =
+    let a = c.args in
+    let z : get_or a.text.now 0 0 ≡ 45 = omega arith in
+    let e : Ok c.in_ok-read_unsigned-in-45.field-0 ≡ unsigned_reading 0 (drop 1 a.text.now) = c.in_ok-read_unsigned-in-45.ensures ∙ ap (unsigned_reading 0) (tail_part a.text.now 1) in
+    sym (ap limited (minus-none (drop 1 a.text.now) c.in_ok-read_unsigned-in-45.field-0 (sym e)))
+    ∙ after_minus a.low a.high a.text.now (λ e. omega arith) z (Ok c.in_ok-read_unsigned-in-45.field-0) e
 
-pub returns-else-low-n : goal.returns-else-low-n
-unfolding limited_reading
-returns-else-low-n c =
-    let answer : Limited = limited_reading c.args.low c.args.high c.args.text.now in
-    let without : (r : Limited) → c.read_unsigned-2.result ≡ r → limited (from_plain (pos c.args.low) r) ≡ answer = (λ r e. let a = c.args in
-    ap (λ q. limited (from_plain (pos a.low) q)) (sym e ∙ c.read_unsigned-2.ensures)
-    ∙ ap limited (numeral-plain (pos a.low) a.high a.text.now c.if-text-eq0.false c.if-text-eq45.false)) in
-    rw (lt-leb _ _ c.if-low-n.false) at (without _ c.in-Value-read_unsigned.is)
+pub returns-in_err-n-in_default : goal.returns-in_err-n-in_default
+returns-in_err-n-in_default c =
+    let a = c.args in
+    let q : c.from_residual-in_err-n-in_default.result ≡ Err c.in_err-n-in_default.field-0.0 = search rules in
+    q
+    ∙ sym (plain-err a.low c.in_err-n-in_default.field-0.0)
+    ∙ without a.low a.high a.text.now (λ e. omega arith) (λ e. omega arith) (Err c.in_err-n-in_default.field-0.0) c.in_err-n-in_default.ensures
+
+pub returns-then-n-low : goal.returns-then-n-low
+returns-then-n-low c =
+    let a = c.args in
+    rw (lt-leb _ _ c.if-n-low.true) at (without a.low a.high a.text.now (λ e. omega arith) (λ e. omega arith) (Ok c.in_ok-n-in_default.n) c.in_ok-n-in_default.ensures)
+
+pub returns-else-n-low : goal.returns-else-n-low
+returns-else-n-low c =
+    let a = c.args in
+    rw (le-leb _ _ c.if-n-low.false) at (without a.low a.high a.text.now (λ e. omega arith) (λ e. omega arith) (Ok c.in_ok-n-in_default.n) c.in_ok-n-in_default.ensures)

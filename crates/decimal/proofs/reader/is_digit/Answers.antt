@@ -1,0 +1,7 @@
+-- `decimal::reader::is_digit` meets its contract: the library's digits are the same. Assumes nothing.
+use Rattle.decimal.specs.Decimal.{is_digit}
+use Rattle.decimal.proofs.reader.is_digit.Goals as goal
+
+pub returns : goal.returns
+unfolding is_digit
+returns c = c.is_ascii_digit.ensures.value
