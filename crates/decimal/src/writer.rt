@@ -1,12 +1,12 @@
 // The one text of a number, and its length.
 ghost use Rattle.std.specs.Prelude.{◌≤◌, nat_abs, ◌≡◌, ◌++◌, length, drop};
-ghost use Rattle.text.specs.Place.{outcome, put};
+ghost use Rattle.text.specs.Place.{chars_answered, put};
 ghost use Rattle.decimal.specs.Decimal.{value, digits, decimal_text};
 ghost use Rattle.decimal.specs.Numerals.{decimal_writing};
 
 use crate::signs::complement;
-use text::numbers::NO_ROOM;
-use text::place::{Written, has_room};
+use refusals::Refusal;
+use text::place::has_room;
 use text::units::Chars;
 
 // The size of a number, without its sign.
@@ -58,18 +58,15 @@ pub fn unsigned_len(value: u64) -> Chars
 }
 
 // The text of a number without a sign into `buf` from `at` on. 17: it doesn't fit.
-pub fn write_unsigned(value: u64, buf: &mut [u8], at: usize) -> Written
-    ensures { outcome result.number result.count.0 buf.new ≡ put buf.old at (digits value) }
+pub fn write_unsigned(value: u64, buf: &mut [u8], at: usize) -> Result<Chars, Refusal>
+    ensures { chars_answered result buf.new ≡ put buf.old at (digits value) }
 {
     let count = unsigned_len(value);
     if !has_room(buf.len(), at, count.0) {
-        return Written {
-            number: NO_ROOM,
-            count: Chars(0),
-        };
+        return Err(Refusal::NoRoom);
     }
     put_digits(value, &mut buf[at..]);
-    Written { number: 0, count }
+    Ok(count)
 }
 
 // How many characters the text of a number has.
@@ -99,16 +96,13 @@ fn put_decimal(value: i64, buf: &mut [u8]) -> usize
 }
 
 // The text of a number into `buf` from `at` on. 17: it doesn't fit.
-pub fn write_decimal(value: i64, buf: &mut [u8], at: usize) -> Written
-    ensures { outcome result.number result.count.0 buf.new ≡ decimal_writing value buf.old at }
+pub fn write_decimal(value: i64, buf: &mut [u8], at: usize) -> Result<Chars, Refusal>
+    ensures { chars_answered result buf.new ≡ decimal_writing value buf.old at }
 {
     let count = decimal_len(value);
     if !has_room(buf.len(), at, count.0) {
-        return Written {
-            number: NO_ROOM,
-            count: Chars(0),
-        };
+        return Err(Refusal::NoRoom);
     }
     put_decimal(value, &mut buf[at..]);
-    Written { number: 0, count }
+    Ok(count)
 }

@@ -1,11 +1,11 @@
 -- The library's words for what Text defines: the place of an element, and the parts between separators. Assumes nothing.
-use Rattle.std.proofs.Common.{rules, ◌≡◌, ℕ, ◌+◌, ◌<◌, Bool, true, false, cond, List, [], ◌∷◌, length, get_or, refl, sym, ap, arith, ◌∙◌, eqb}
+use Rattle.std.proofs.Common.{rules, ◌≡◌, ℕ, Bool, true, false, cond, List, [], ◌∷◌, length, get_or, refl, arith, eqb}
 use Prim.Native.Nat.{zero, suc}
 use Rattle.std.specs.List.{position, position_or_len, slice_split, onto_first, slice_get, list_all}
-use Rattle.std.specs.Option.{unwrap_or, option_map}
+use Rattle.std.specs.Option.{unwrap_or}
 use Rattle.std.proofs.lemmas.List.Recursion.{is_position_or_len}
 use Rattle.std.proofs.lemmas.Grind.{common_steps}
-use Rattle.text.specs.Text.{all, find, Parts, put_byte, split, parts}
+use Rattle.text.specs.Text.{all, find, put_byte, split, parts}
 use Rattle.text.proofs.Scanning.{find-le}
 
 pub find-position_or_len : (d : ℕ) (s : List ℕ) → find d s ≡ position_or_len (λ x. eqb x d) s

@@ -7,9 +7,14 @@ use mathlib.Core.List.{List, ◌++◌}
 use mathlib.Core.Path.{◌≡◌, sym, ap, ◌∙◌}
 use native.Mathlib.Omega.{arith}
 use lib.ListN.{length, take, drop, length-drop}
-use borrow.Author.Tests.{leb-true, leb-false}
+use borrow.Author.Tests.{leb-true, leb-false, le-leb}
 use borrow.Rule.Slice.PartMut.{put_mid}
-use Rattle.text.specs.Place.{outcome, refused, has_room, over, put}
+use Rattle.std.proofs.Common.{Result, Ok, Err, refl, ap}
+use Rattle.std.specs.Result.{IsOk}
+use Rattle.refusals.specs.declared.Refusal.{Refusal}
+use Rattle.refusals.specs.Numbers.{number_of}
+use Rattle.refusals.proofs.Numbers.{number_pos}
+use Rattle.text.specs.Place.{Outcome, outcome, refused, answered, has_room, over, put}
 use Rattle.text.proofs.Writing.{put_done, put_full, tail_part, tail_over}
 use Rattle.text.proofs.Over.{over_start}
 
@@ -41,3 +46,12 @@ module _ {buffer : List ℕ} {at : ℕ} {t : List ℕ} {count : ℕ} {b : Bool} 
   pub writer_over : b ≡ true → (ys : List ℕ) → ys ≡ over (take (length buffer - at) (drop at buffer)) 0 t
       → outcome 0 count (put_mid at (length buffer - at) buffer ys) ≡ put buffer at t
   writer_over h ys e = writer_done h ys (e ∙ over_start (take (length buffer - at) (drop at buffer)) t)
+
+-- where there is room, an answer is a count
+pub has_count : {A : Type 0} (size : A → ℕ) (w : Result A Refusal) (buffer left t : List ℕ) (at : ℕ) → at + length t ≤ length buffer
+    → answered size w left ≡ put buffer at t → IsOk w
+unfolding put
+has_count size (Ok a) buffer left t at h e = refl
+has_count size (Err r) buffer left t at h e =
+    let z : number_of r ≡ 0 = ap (λ (o : Outcome). o.number) (rw (le-leb (at + length t) (length buffer) h) at e) in
+    absurd (omega (arith, number_pos r))

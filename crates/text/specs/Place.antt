@@ -1,7 +1,11 @@
 -- 'Into a lent buffer, from a place in its middle onward. Bytes before the place and after the written ones stay.' The one definition for every
 -- writer. 01's place is an index into a buffer or a string; its room is what is left of the buffer from there.
 -- Assumes nothing.
-use Rattle.std.specs.Prelude.{ℕ, ◌+◌, ◌≡◌, Bool, true, cond, List, ◌++◌, ◌≢◌, leb, eqb, length, take, drop}
+use Rattle.std.specs.Prelude.{ℕ, ◌+◌, ◌≡◌, Bool, true, cond, List, ◌++◌, ◌≢◌, leb, eqb, length, take, drop, Result, Ok, Err}
+use Rattle.refusals.specs.Numbers.{number_of}
+use Rattle.refusals.specs.declared.Refusal.{Refusal}
+use Rattle.text.specs.declared.units.Chars.{Chars}
+use Rattle.text.specs.declared.units.Bytes.{Bytes}
 
 -- what a writer hands back, and the buffer as it leaves it
 pub record Outcome : Type 0 where
@@ -15,6 +19,18 @@ outcome number count buffer = record { number = number; count = count; buffer = 
 -- a refusal: its number, and nothing written
 abbrev pub refused : ℕ → List ℕ → Outcome
 refused number buffer = outcome number 0 buffer
+
+-- the outcome that an answer is, with the buffer as the entry leaves it: a count, or a refusal's number and nothing counted
+abbrev pub answered : {A : Type 0} → (A → ℕ) → Result A Refusal → List ℕ → Outcome
+answered size (Ok a) buffer = outcome 0 (size a) buffer
+answered size (Err r) buffer = refused (number_of r) buffer
+
+-- a writer counts characters, a decoder bytes
+abbrev pub chars_answered : Result Chars Refusal → List ℕ → Outcome
+chars_answered = answered (λ n. n.0)
+
+abbrev pub bytes_answered : Result Bytes Refusal → List ℕ → Outcome
+bytes_answered = answered (λ n. n.0)
 
 -- n bytes fit a buffer of so many bytes from the place on; so the place does not lie past its end. 'A place equal to the buffer's length is no fault
 -- where nothing is to be written'

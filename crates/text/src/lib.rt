@@ -3,7 +3,6 @@
 #![tactic(auto)]
 
 pub mod lines;
-pub mod numbers;
 pub mod order;
 pub mod place;
 pub mod scan;

@@ -1,5 +1,5 @@
 -- `text::scan::next_at` meets its contract: the library's `position` finds the same place. Assumes nothing.
-use Rattle.std.proofs.Common.{rules, ◌≡◌, ◌≤◌, ◌+◌, length, drop, arith, ap, ◌∙◌}
+use Rattle.std.proofs.Common.{◌≡◌, drop, arith}
 use Rattle.std.proofs.lemmas.Grind.{common_steps}
 use Rattle.text.specs.Text.{find}
 use Rattle.text.proofs.Library.{find-position}
