@@ -1,6 +1,6 @@
 // From B64 characters to bytes, into a lent buffer, by whole groups of four: a text that is judged first, or what stands at a place.
 ghost use Rattle.std.specs.Prelude.{◌≡◌, true, ◌++◌, ◌+◌, ◌≤◌, ◌<◌, length, get_or, drop};
-ghost use Rattle.text.specs.Place.{outcome};
+ghost use Rattle.text.specs.Place.{bytes_answered};
 ghost use Rattle.b64.specs.B64.{sextet, Sextets, canonical, decode, decoding};
 ghost use Rattle.b64.specs.Runs.{RunGives};
 ghost use Rattle.b64.specs.RunSteps.{Reached, Stopped};
@@ -8,11 +8,10 @@ ghost use Rattle.b64.specs.RunSteps.{Reached, Stopped};
 use crate::alphabet::SEXTETS;
 use crate::group_bytes::{four, put_group, put_one, put_three, put_two};
 use crate::lengths::decoded_len;
-use crate::numbers::NOT_CANONICAL;
 use crate::sextets::{is_canonical_by, sextet_of};
-use text::numbers::NO_ROOM;
+use refusals::Refusal;
 use text::order::min;
-use text::place::{Decoded, has_room};
+use text::place::has_room;
 use text::units::{Bytes, Chars};
 
 // How far a run was decoded: the place after the characters, and the place after their bytes; and whether the run is a canonical text whose bytes
@@ -182,23 +181,17 @@ fn decode_all(table: &[u8; 256], text: &[u8], out: &mut [u8])
 }
 
 // The bytes of a text into `buf` from `at` on. 12: the text is not canonical; then 17: they don't fit.
-pub fn decode(text: &[u8], buf: &mut [u8], at: usize) -> Decoded
-    ensures { outcome result.number result.count.0 buf.new ≡ decoding text.now buf.old at }
+pub fn decode(text: &[u8], buf: &mut [u8], at: usize) -> Result<Bytes, Refusal>
+    ensures { bytes_answered result buf.new ≡ decoding text.now buf.old at }
 {
     let table = &SEXTETS;
-    if is_canonical_by(table, text) {
-        let count = decoded_len(Chars(text.len()));
-        if has_room(buf.len(), at, count.0) {
-            decode_all(table, text, &mut buf[at..]);
-            return Decoded { number: 0, count };
-        }
-        return Decoded {
-            number: NO_ROOM,
-            count: Bytes(0),
-        };
+    if !is_canonical_by(table, text) {
+        return Err(Refusal::WrongBytes);
     }
-    Decoded {
-        number: NOT_CANONICAL,
-        count: Bytes(0),
+    let count = decoded_len(Chars(text.len()));
+    if !has_room(buf.len(), at, count.0) {
+        return Err(Refusal::NoRoom);
     }
+    decode_all(table, text, &mut buf[at..]);
+    Ok(count)
 }

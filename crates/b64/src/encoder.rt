@@ -1,12 +1,12 @@
 // From bytes to B64 characters, into a lent buffer.
 ghost use Rattle.std.specs.Prelude.{◌≡◌, ◌++◌, ◌+◌, ◌≤◌, ◌<◌, length, take, drop};
-ghost use Rattle.text.specs.Place.{outcome};
+ghost use Rattle.text.specs.Place.{chars_answered};
 ghost use Rattle.b64.specs.B64.{Letters, encode, encoding};
 
 use crate::lengths::encoded_len;
 use crate::letters::{LETTERS, letter_of};
-use text::numbers::NO_ROOM;
-use text::place::{Written, has_room};
+use refusals::Refusal;
+use text::place::has_room;
 use text::units::{Bytes, Chars};
 
 // The first three bytes, as four characters.
@@ -63,17 +63,14 @@ fn encode_all(table: &[u8; 64], bytes: &[u8], out: &mut [u8])
 }
 
 // The text of bytes into `buf` from `at` on. 17: it doesn't fit.
-pub fn encode(bytes: &[u8], buf: &mut [u8], at: usize) -> Written
-    ensures { outcome result.number result.count.0 buf.new ≡ encoding bytes.now buf.old at }
+pub fn encode(bytes: &[u8], buf: &mut [u8], at: usize) -> Result<Chars, Refusal>
+    ensures { chars_answered result buf.new ≡ encoding bytes.now buf.old at }
 {
     let table = &LETTERS;
     let count = encoded_len(Bytes(bytes.len()));
-    if has_room(buf.len(), at, count.0) {
-        encode_all(table, bytes, &mut buf[at..]);
-        return Written { number: 0, count };
+    if !has_room(buf.len(), at, count.0) {
+        return Err(Refusal::NoRoom);
     }
-    Written {
-        number: NO_ROOM,
-        count: Chars(0),
-    }
+    encode_all(table, bytes, &mut buf[at..]);
+    Ok(count)
 }

@@ -9,5 +9,4 @@ mod group_bytes;
 pub mod groups;
 pub mod lengths;
 mod letters;
-pub mod numbers;
 mod sextets;

@@ -12,18 +12,10 @@ encode_all-requires-clause-bytes_in_bounds c =
       counted = omega (arith, length_encode c.args.bytes.now, c.encoded_len-count.ensures, c.well_formed.0.1);
       answered = c.has_room.ensures;
     } in
-    writer_room asked c.if-has_room.true
+    writer_room asked c.if-not-has_room.false
 
 pub encode_all-requires-clause-letters : goal.encode_all-requires-clause-letters
 encode_all-requires-clause-letters c = letters_rule
-
-pub returns-then-has_room : goal.returns-then-has_room
-returns-then-has_room c =
-    let asked : let a = c.args in Asked a.buf.now a.at (encode a.bytes.now) c.encoded_len-count.result.0 c.has_room.result = record {
-      counted = omega (arith, length_encode c.args.bytes.now, c.encoded_len-count.ensures, c.well_formed.0.1);
-      answered = c.has_room.ensures;
-    } in
-    writer_done asked c.if-has_room.true _ c.encode_all.ensures
 
 pub returns : goal.returns
 returns c =
@@ -31,4 +23,12 @@ returns c =
       counted = omega (arith, length_encode c.args.bytes.now, c.encoded_len-count.ensures, c.well_formed.0.1);
       answered = c.has_room.ensures;
     } in
-    writer_full asked c.if-has_room.false
+    writer_done asked c.if-not-has_room.false _ c.encode_all.ensures
+
+pub returns-then-not-has_room : goal.returns-then-not-has_room
+returns-then-not-has_room c =
+    let asked : let a = c.args in Asked a.buf.now a.at (encode a.bytes.now) c.encoded_len-count.result.0 c.has_room.result = record {
+      counted = omega (arith, length_encode c.args.bytes.now, c.encoded_len-count.ensures, c.well_formed.0.1);
+      answered = c.has_room.ensures;
+    } in
+    writer_full asked c.if-not-has_room.true
