@@ -1,25 +1,21 @@
 -- `table::columns::column_of` meets its contract. Assumes nothing.
-use Prim.Native.Nat.{ℕ}
-use mathlib.Core.Path.{◌∙◌, ap}
-use Rattle.table.specs.Limits.{no_profile, argon2, pbkdf2}
-use Rattle.table.specs.Columns.{name_at}
-use Rattle.table.proofs.ColumnLaws.{index_by, column-argon2, column-pbkdf2, column_other}
+use mathlib.Core.Logic.{inl, inr}
+use native.Mathlib.Omega.{arith}
+use Rattle.table.proofs.ColumnLaws.{column-argon2, column-pbkdf2, column_other}
 use Rattle.table.proofs.columns.column_of.Goals as goal
+use Rattle.table.proofs.columns.column_of.Goals.{in_default-via-then-id-lt1, in_default-via-else-id-lt1+else-id-lt4+else-id-lt6}
 
-pub returns-then-id-lt4 : goal.returns-then-id-lt4
-returns-then-id-lt4 c =
-    let id = c.args.id in
-    let e = column-argon2 id c.if-id-lt1.false c.if-id-lt4.true in
-    (c.argon2.ensures.0 ∙ ap (λ (k : ℕ). argon2 (name_at k)) c.index.ensures ∙ e, c.argon2.ensures.1 ∙ c.index.ensures ∙ index_by id (argon2 (name_at id)) e)
+pub returns-in-1-to-3 : goal.returns-in-1-to-3
+returns-in-1-to-3 c = column-argon2 c.args.id c.argon2.result c.from.result c.from.ensures (omega arith) (omega arith) c.argon2.ensures
 
-pub returns-then-id-lt6 : goal.returns-then-id-lt6
-returns-then-id-lt6 c =
-    let id = c.args.id in
-    let e = column-pbkdf2 id c.if-id-lt4.false c.if-id-lt6.true in
-    (c.pbkdf2.ensures.0 ∙ ap (λ (k : ℕ). pbkdf2 (name_at k)) c.index-then-id-lt6.ensures ∙ e, c.pbkdf2.ensures.1 ∙ c.index-then-id-lt6.ensures ∙ index_by id (pbkdf2 (name_at id)) e)
+pub returns-in-4-to-5 : goal.returns-in-4-to-5
+returns-in-4-to-5 c = column-pbkdf2 c.args.id c.pbkdf2.result c.from-in-4-to-5.result c.from-in-4-to-5.ensures (omega arith) (omega arith) c.pbkdf2.ensures
 
-pub returns : goal.returns
-returns c =
-    let id = c.args.id in
-    let e = column_other id c.if-id-lt6.false in
-    (c.no_profile-2.ensures.0 ∙ e, c.no_profile-2.ensures.1 ∙ index_by id no_profile e)
+pub returns-in_default : goal.returns-in_default
+returns-in_default c =
+    column_other c.args.id c.no_profile.result
+    (elim c.in_default.branch [
+      | in_default-via-then-id-lt1 w ↦ inl (omega arith)
+      | in_default-via-else-id-lt1+else-id-lt4+else-id-lt6 w ↦ inr (omega arith)
+    ])
+    c.no_profile.ensures
