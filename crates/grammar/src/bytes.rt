@@ -6,18 +6,12 @@ ghost use Rattle.grammar.specs.Bytes.{is_name_byte, is_value_byte};
 pub fn is_name_byte(c: u8) -> bool
     ensures { result ≡ is_name_byte c }
 {
-    match c {
-        b'a'..=b'z' | b'0'..=b'9' | b'-' => true,
-        _ => false,
-    }
+    matches!(c, b'a'..=b'z' | b'0'..=b'9' | b'-')
 }
 
 // A byte of a parameter's value or of a salt.
 pub fn is_value_byte(c: u8) -> bool
     ensures { result ≡ is_value_byte c }
 {
-    match c {
-        b'a'..=b'z' | b'A'..=b'Z' | b'0'..=b'9' | b'/' | b'+' | b'.' | b'-' => true,
-        _ => false,
-    }
+    matches!(c, b'a'..=b'z' | b'A'..=b'Z' | b'0'..=b'9' | b'/' | b'+' | b'.' | b'-')
 }

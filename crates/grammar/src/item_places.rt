@@ -19,14 +19,10 @@ pub struct ItemPlace {
 pub fn item_place(params: &[u8], at: usize) -> ItemPlace
     ensures { result ≡ item_place params.now at }
 {
-    let none = Span {
-        at: 0,
-        len: Chars(0),
-    };
     if params.len() < at {
         return ItemPlace {
-            name: none,
-            value: none,
+            name: Span::NONE,
+            value: Span::NONE,
             next: at,
         };
     }
@@ -39,7 +35,7 @@ pub fn item_place(params: &[u8], at: usize) -> ItemPlace
     if end - at <= len {
         return ItemPlace {
             name,
-            value: none,
+            value: Span::NONE,
             next: end + 1,
         };
     }

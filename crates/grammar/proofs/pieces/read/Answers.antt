@@ -31,8 +31,8 @@ returns-then-number-ne0 c =
     let s = c.args.s.now in
     c.refused-then-number-ne0.ensures ∙ sym (layout-refused s c.number_of-number.result (number_pieces s sound ∙ sym c.number_of-number.ensures) c.if-number-ne0.true)
 
-pub items_of-items-requires : goal.items_of-items-requires
-items_of-items-requires c =
+pub items_of-requires : goal.items_of-requires
+items_of-requires c =
     let placed : c.sort-sorted.result.places ≡ places_of (pieces c.args.s.now) = ap (λ (x : Sorted). x.places) c.sort-sorted.ensures in
     let sound : bad_string c.args.s.now ≡ false = sym c.bad_string.ensures ∙ c.if-bad_string.false in
     let begun : begins_with_dollar c.args.s.now ≡ true = bad_string_begins c.args.s.now sound in
@@ -45,5 +45,5 @@ returns c =
     let s = c.args.s.now in
     let z : grammar_number s ≡ 0 = number_pieces s sound ∙ sym c.number_of-number.ensures ∙ c.if-number-ne0.false in
     let p = placed in
-    let k = c.items_of-items.ensures in
+    let k = c.items_of.ensures in
     ◌∙◌ {b = accepted_layout (pieces s)} (λ i. record { number = 0; places = p i; items = k i }) (sym (layout-accepted s z))

@@ -5,10 +5,10 @@ use Rattle.text.proofs.Scanning.{find_from_le}
 use Rattle.grammar.proofs.SortLaws.{stepped_past, stepped_to, stepped_not}
 use Rattle.grammar.proofs.sorting.take_piece.Goals as goal
 
-pub returns-then-s-at : goal.returns-then-s-at
-returns-then-s-at c =
+pub returns-else-at-s : goal.returns-else-at-s
+returns-else-at-s c =
     let a = c.args in
-    stepped_past a.s.now a.which a.at c.if-s-at.true
+    stepped_past a.s.now a.which a.at c.if-at-s.false
 
 pub slice_bounds-is_next-end : goal.slice_bounds-is_next-end
 slice_bounds-is_next-end c =
