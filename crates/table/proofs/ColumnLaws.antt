@@ -89,13 +89,6 @@ module _ (s : List ℕ) (r : Profile) where
   pub named_other : same s r.name ≡ false → false ≡ is_named s r
   named_other e = sym (rw (e, and-false))
 
-  pub named_known : same s r.name ≡ true → r.known ≡ is_named s r
-  named_known e = rw e (go r.known)
-    where
-      go : (b : Bool) → b ≡ (b && true)
-      go true = refl
-      go false = refl
-
 -- the number of an id text in a table, by the first column that has its name
 module _ (s : List ℕ) where
   abbrev Named : List Profile → ℕ → Bool → Type 0
