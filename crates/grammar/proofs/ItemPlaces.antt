@@ -120,23 +120,33 @@ module _ (s : List ℕ) (at : ℕ) (h : at ≤ length s) where
   -- ---- as the code finds it: the item ends at `end`, and its name has the length `len`
 
   module _ (end : ℕ) (p : end ≡ at + find comma (drop at s)) (len : ℕ) (q : len ≡ 0 + find equals (take (end - at) (drop at s))) where
+    abbrev part : List ℕ
+    part = take (end - at) (drop at s)
+
+    part_is : part ≡ item
+    part_is =
+        let e : end - at ≡ find comma (drop at s) = omega arith in
+        ap (λ (n : ℕ). take n (drop at s)) e
+
     len_is : len ≡ find equals item
     len_is =
-        let e : end - at ≡ find comma (drop at s) = omega arith in
-        let z : len ≡ find equals (take (end - at) (drop at s)) = omega arith in
-        z ∙ ap (λ (n : ℕ). find equals (take n (drop at s))) e
+        let z : len ≡ find equals part = omega arith in
+        z ∙ ap (find equals) part_is
 
-    pub place_bare : end - at ≤ len → ◌≡◌ {A = ItemPlace} (record { name = span at len; value = span 0 0; next = end + 1 }) (item_place s at)
+    part_length : length part ≡ length item
+    part_length = ap length part_is
+
+    pub place_bare : length part ≤ len → ◌≡◌ {A = ItemPlace} (record { name = span at len; value = span 0 0; next = end + 1 }) (item_place s at)
     place_bare b =
-        let u = unfound equals item (omega (arith, len_is, size)) in
+        let u = unfound equals item (omega (arith, len_is, part_length)) in
         let n = len_is ∙ sym name_size in
         let e : end + 1 ≡ at + length item + 1 = omega (arith, size) in
         rw (place_is, u) (λ i. record { name = span at (n i); value = span 0 0; next = e i })
 
-    pub place_valued : len < end - at
+    pub place_valued : len < length part
         → ◌≡◌ {A = ItemPlace} (record { name = span at len; value = span (at + len + 1) (end - (at + len + 1)); next = end + 1 }) (item_place s at)
     place_valued b =
-        let f = found equals item (omega (arith, len_is, size)) in
+        let f = found equals item (omega (arith, len_is, part_length)) in
         let n = len_is ∙ sym name_size in
         let k : end - (at + len + 1) ≡ length (cut equals item).1 = omega (arith, value_size, len_is, size) in
         let e : end + 1 ≡ at + length item + 1 = omega (arith, size) in

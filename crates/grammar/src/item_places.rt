@@ -27,25 +27,23 @@ pub fn item_place(params: &[u8], at: usize) -> ItemPlace
         };
     }
     let end = next_at(params, at, b',');
-    let len = next_at(&params[at..end], 0, b'=');
-    let name = Span {
-        at,
-        len: Chars(len),
-    };
-    if end - at <= len {
-        return ItemPlace {
-            name,
-            value: Span::NONE,
-            next: end + 1,
-        };
-    }
-    let start = at + len + 1;
-    ItemPlace {
-        name,
-        value: Span {
+    let item = &params[at..end];
+    let len = next_at(item, 0, b'=');
+    let value = if len < item.len() {
+        let start = at + len + 1;
+        Span {
             at: start,
             len: Chars(end - start),
+        }
+    } else {
+        Span::NONE
+    };
+    ItemPlace {
+        name: Span {
+            at,
+            len: Chars(len),
         },
+        value,
         next: end + 1,
     }
 }

@@ -33,12 +33,12 @@ fn is_item(item: &[u8]) -> bool
 pub fn item_count(params: &[u8]) -> usize
     ensures { result ≡ length (items params.now) }
 {
-    params.iter().filter(|c| **c == b',').count() + 1
+    params.iter().filter(|&&c| c == b',').count() + 1
 }
 
 // 1 to 16 items, each by its rule.
 pub fn is_params(params: &[u8]) -> bool
     ensures { result ≡ is_params params.now }
 {
-    item_count(params) <= MOST_ITEMS && params.split(|&c| c == b',').all(|item| is_item(item))
+    item_count(params) <= MOST_ITEMS && params.split(|&c| c == b',').all(is_item)
 }

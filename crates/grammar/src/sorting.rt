@@ -1,6 +1,6 @@
 // Sorting the pieces of a string: the id, then the version, the parameters, the salt and the output where they are there.
 ghost use Rattle.std.specs.Prelude.{◌≡◌, true};
-ghost use Rattle.grammar.specs.Pieces.{is_version_piece, belongs, pieces};
+ghost use Rattle.grammar.specs.Pieces.{belongs, pieces};
 ghost use Rattle.grammar.specs.Rules.{begins_with_dollar};
 ghost use Rattle.grammar.specs.SortingSteps.{Stepped, sorted_of};
 
@@ -22,17 +22,11 @@ pub struct Step {
     pub next: usize,
 }
 
-fn begins_version(text: &[u8]) -> bool
-    ensures { result ≡ is_version_piece text.now }
-{
-    text.starts_with(b"v=")
-}
-
 fn is_next(text: &[u8], which: Piece) -> bool
     ensures { result ≡ belongs which text.now }
 {
     match which {
-        Piece::Version => begins_version(text),
+        Piece::Version => text.starts_with(b"v="),
         Piece::Params => text.contains(&b'='),
         Piece::Id | Piece::Salt | Piece::Output => true,
     }
