@@ -3,6 +3,7 @@ ghost use Rattle.std.specs.Prelude.{◌≡◌};
 ghost use Rattle.grammar.specs.Bytes.{is_name_byte, is_value_byte};
 
 // A byte of an id or of a parameter's name.
+#[tactic(auto, unfolding(crate::specs::Bytes::is_name_byte))]
 pub fn is_name_byte(c: u8) -> bool
     ensures { result ≡ is_name_byte c }
 {
@@ -10,6 +11,7 @@ pub fn is_name_byte(c: u8) -> bool
 }
 
 // A byte of a parameter's value or of a salt.
+#[tactic(auto, unfolding(crate::specs::Bytes::is_value_byte))]
 pub fn is_value_byte(c: u8) -> bool
     ensures { result ≡ is_value_byte c }
 {

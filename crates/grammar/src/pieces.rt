@@ -32,6 +32,7 @@ fn refused(number: u8) -> Layout
 }
 
 // The grammar reader: the first of rows 1 to 7 that applies, or the places and the number of items.
+#[tactic(auto, using(crate::proofs::Reading::bad_string_begins))]
 pub fn read(s: &[u8]) -> Layout
     ensures { result ≡ layout s.now }
 {

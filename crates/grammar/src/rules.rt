@@ -54,6 +54,7 @@ fn keeps_rule(text: &[u8], which: Piece) -> bool
 }
 
 // Rows 2 to 6: whether a piece that is there breaks its rule.
+#[tactic(auto, using(crate::proofs::RuleLaws::keeps_present))]
 fn breaks(s: &[u8], places: Places, which: Piece) -> bool
     requires { (begins_with_dollar s.now ≡ true) × (places ≡ places_of (pieces s.now)) }
     ensures { result ≡ breaks (pieces s.now) which }
@@ -87,6 +88,7 @@ pub fn number_of(s: &[u8], sorted: Sorted) -> u8
 }
 
 // The number of items; 0 where there is no parameter piece.
+#[tactic(auto, using(crate::proofs::RuleLaws::items_present))]
 pub fn items_of(s: &[u8], places: Places) -> usize
     requires { (begins_with_dollar s.now ≡ true) × (places ≡ places_of (pieces s.now)) }
     ensures { result ≡ length (items_of (pieces s.now).params) }

@@ -32,6 +32,7 @@ fn is_next(text: &[u8], which: Piece) -> bool
     }
 }
 
+#[tactic(auto, using(crate::proofs::SortLaws::stepped_past, crate::proofs::SortLaws::stepped_to, crate::proofs::SortLaws::stepped_not, text::proofs::Scanning::find_from_le))]
 fn take_piece(s: &[u8], at: usize, which: Piece) -> Step
     ensures { Stepped s.now which at result.span result.next }
 {
