@@ -1,7 +1,7 @@
 -- The code's table is document 01's: one test over its numbers, and what the test says of each number.
 -- Assumes nothing.
 use Prim.Native.Nat.{ℕ, zero, suc, ◌≤◌, ◌<◌}
-use mathlib.Core.Bool.{Bool, true, false, cond, ◌&&◌, and-false}
+use mathlib.Core.Bool.{Bool, true, false, cond, and-false}
 use mathlib.Core.List.{List, [], ◌∷◌}
 use mathlib.Core.Logic.{◌⊎◌, inl, inr}
 use mathlib.Core.Path.{◌≡◌, refl, sym, ◌∙◌, ap}
@@ -53,16 +53,15 @@ module _ (k : ℕ) (c : Column) where
   index_by : (r : Profile) → r ≡ profile_of edition_two k → cond r.known k 0 ≡ name_index k
   index_by r e = ap (λ (r : Profile). cond r.known k 0) e
 
-  module _ (i : ℕ) (e : i ≡ k) where
-    pub column-argon2 : 1 ≤ k → k < 4 → (profile_in c ≡ argon2 (name_at i)) × (c.name ≡ i) → Is_column_of
-    column-argon2 l h p =
-        let q : argon2 (name_at k) ≡ profile_of edition_two k = sym (rw (le-ltb k 1 l, lt-ltb k 4 h)) ∙ column_rule k in
-        (p.0 ∙ ap (λ (n : ℕ). argon2 (name_at n)) e ∙ q, p.1 ∙ e ∙ index_by (argon2 (name_at k)) q)
+  pub column_argon2 : 1 ≤ k → k < 4 → profile_in c ≡ argon2 (name_at k) → c.name ≡ k → Is_column_of
+  column_argon2 l h p n =
+      let q : argon2 (name_at k) ≡ profile_of edition_two k = sym (rw (le-ltb k 1 l, lt-ltb k 4 h)) ∙ column_rule k in
+      (p ∙ q, n ∙ index_by (argon2 (name_at k)) q)
 
-    pub column-pbkdf2 : 4 ≤ k → k < 6 → (profile_in c ≡ pbkdf2 (name_at i)) × (c.name ≡ i) → Is_column_of
-    column-pbkdf2 l h p =
-        let q : pbkdf2 (name_at k) ≡ profile_of edition_two k = sym (rw (le-ltb k 1 (omega arith), le-ltb k 4 l, lt-ltb k 6 h)) ∙ column_rule k in
-        (p.0 ∙ ap (λ (n : ℕ). pbkdf2 (name_at n)) e ∙ q, p.1 ∙ e ∙ index_by (pbkdf2 (name_at k)) q)
+  pub column_pbkdf2 : 4 ≤ k → k < 6 → profile_in c ≡ pbkdf2 (name_at k) → c.name ≡ k → Is_column_of
+  column_pbkdf2 l h p n =
+      let q : pbkdf2 (name_at k) ≡ profile_of edition_two k = sym (rw (le-ltb k 1 (omega arith), le-ltb k 4 l, lt-ltb k 6 h)) ∙ column_rule k in
+      (p ∙ q, n ∙ index_by (pbkdf2 (name_at k)) q)
 
   pub column_other : k < 1 ⊎ 6 ≤ k → (profile_in c ≡ no_profile) × (c.name ≡ 0) → Is_column_of
   column_other h p =

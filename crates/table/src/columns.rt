@@ -77,6 +77,7 @@ fn pbkdf2(name: usize) -> Column
     }
 }
 
+#[tactic(auto, unfolding(crate::specs::Limits::edition_two, crate::specs::Columns::name_in, grammar::specs::Parts::part_at))]
 fn no_profile() -> Column
     ensures { (profile_in result ≡ no_profile) × (result.name ≡ 0) }
 {
@@ -104,6 +105,7 @@ fn no_profile() -> Column
 }
 
 // The column of an id by its number. Free answer: of another number that of no profile.
+#[tactic(auto, using(crate::proofs::ColumnLaws::column_argon2, crate::proofs::ColumnLaws::column_pbkdf2, crate::proofs::ColumnLaws::column_other))]
 pub fn column_of(id: u8) -> Column
     ensures { (profile_in result ≡ profile_of edition_two id) × (result.name ≡ name_index id) }
 {

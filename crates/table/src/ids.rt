@@ -8,6 +8,7 @@ use crate::names::{NAMES, name_at};
 use text::scan::same_text;
 
 // Whether the id of a number is known and has the name.
+#[tactic(auto, using(crate::proofs::ColumnLaws::name_rule, crate::proofs::ColumnLaws::named_other))]
 fn is_named(names: &[u8], id: u8, name: &[u8]) -> bool
     requires { names.now ≡ name_table }
     ensures { result ≡ is_named name.now (profile_of edition_two id) }

@@ -16,6 +16,7 @@ pub const NAMES: [u8; 54] =
     *b"\0\0\0\0\0\0\0\0\0\x07argon2d\0\x07argon2i\0\x08argon2id\x08pbkdf2s2\x08pbkdf2s3";
 
 // The name at an index of the table. Free answer: empty past the last.
+#[tactic(auto, unfolding(crate::specs::Columns::name_in, grammar::specs::Parts::part_at))]
 pub fn name_at(names: &[u8], index: usize) -> &[u8]
     ensures { result.now ≡ name_in names.now index }
 {
