@@ -1,44 +1,25 @@
 -- The items of a parameter piece, walked from a place on; their rule; and the way back from items to the piece.
 -- Assumes nothing.
-use Prim.Native.Nat.{ℕ, zero, suc, ◌+◌, ◌-◌, ◌≤◌}
-use mathlib.Core.Bool.{Bool, true, false, not, ◌&&◌, false≢true}
+use Prim.Native.Nat.{ℕ, zero, suc}
+use mathlib.Core.Bool.{true, false, not, ◌&&◌, false≢true}
 use mathlib.Core.List.{List, [], ◌∷◌, map}
 use mathlib.Core.Option.{some}
 use mathlib.Core.Path.{◌≡◌, refl, sym, ◌∙◌, ap, ap₂}
-use native.Mathlib.Omega.{arith}
-use borrow.Author.Tests.{le-leb}
-use lib.Dec.{leb, eqb}
-use lib.ListN.{length, get_or, take, drop}
-use Rattle.text.specs.Text.{text, within, all, has, same, empty, Parts, find, split, join, cut, NoneHas}
+use lib.Dec.{eqb}
+use lib.ListN.{length, get_or}
+use Rattle.text.specs.Text.{text, within, all, has, same, empty, Parts, split, join, cut, NoneHas}
 use Rattle.text.proofs.Tests.{both}
 use Rattle.text.proofs.Lists.{not_in, has-append, join-split, split_join, cut-join, join-cut}
-use Rattle.text.proofs.Splitting.{from_to, from_zero}
+use Rattle.text.proofs.Splitting.{from_zero}
 use Rattle.grammar.specs.Bytes.{comma, equals, is_name_byte, is_value_byte, is_text}
 use Rattle.grammar.specs.Pieces.{OptionalText}
 use Rattle.grammar.specs.Items.{Item, item_text, items, items_from, items_of, params_text}
-use Rattle.grammar.specs.Limits.{most_items}
-use Rattle.grammar.specs.Rules.{is_name, is_value, is_item, is_params}
+use Rattle.grammar.specs.Rules.{is_name, is_value, is_item}
 
 -- ---- from a place on
 
 pub items_start : (s : List ℕ) → items s ≡ items_from s 0
 items_start s = ap (map (cut equals)) (sym (from_zero comma s))
-
-pub items_to : (s : List ℕ) (at : ℕ) → at ≤ length s → (e : ℕ) → e ≡ at + find comma (drop at s)
-    → items_from s at ≡ cut equals (take (e - at) (drop at s)) ∷ items_from s (e + 1)
-items_to s at h e p = ap (map (cut equals)) (from_to comma s at h e p)
-
--- ---- the rule of a parameter piece, after n items that keep theirs: at the start and at the end
-
-abbrev pub fine : ℕ → List Item → Bool
-fine n is = leb (n + length is) most_items && all is_item is
-
-pub fine_start : (s : List ℕ) → is_params s ≡ fine 0 (items s)
-unfolding is_params
-fine_start s = let z : length (items s) ≡ 0 + length (items s) = omega arith in ap (λ (n : ℕ). leb n most_items && all is_item (items s)) z
-
-pub fine_end : (n : ℕ) → n ≤ most_items → fine n [] ≡ true
-fine_end n h = rw (le-leb (n + 0) 16 (omega arith))
 
 -- ---- an item at an index
 

@@ -1,12 +1,11 @@
 -- Where an item stands: the parts at its spans are the first of the items from its place on, and the others begin at its next place.
 -- Assumes nothing.
-use Prim.Native.Nat.{ℕ, suc, ◌+◌, ◌-◌, ◌≤◌, ◌<◌}
-use mathlib.Core.Bool.{Bool, true, false, ◌&&◌, and-false, true≢false}
+use Prim.Native.Nat.{ℕ, ◌+◌, ◌-◌, ◌≤◌, ◌<◌}
+use mathlib.Core.Bool.{Bool, true, false, true≢false}
 use mathlib.Core.List.{List, [], ◌∷◌, map}
 use mathlib.Core.Path.{◌≡◌, refl, sym, ◌∙◌, ap}
 use native.Mathlib.Omega.{arith}
 use borrow.Author.Tests.{le-leb, lt-leb, ltb-false}
-use lib.Dec.{leb}
 use lib.ListN.{length, take, drop, length-drop, drop_of_length-le}
 use lib.Seq.{length-take-le, take-take, drop-drop}
 use Rattle.text.specs.Text.{all, has, empty, find, cut}
@@ -15,7 +14,6 @@ use Rattle.text.proofs.Scanning.{find-le, find_from_le}
 use Rattle.text.proofs.Splitting.{from_step, from_past, cut_before, cut_after, has-find, found, unfound, find_inside}
 use Rattle.text.proofs.Prefixes.{drop-take}
 use Rattle.grammar.specs.Bytes.{comma, equals}
-use Rattle.grammar.specs.Limits.{most_items}
 use Rattle.grammar.specs.Items.{Item, items_from}
 use Rattle.grammar.specs.Rules.{is_item}
 use Rattle.grammar.specs.Layout.{span}
@@ -23,7 +21,7 @@ use Rattle.grammar.specs.ItemPlaces.{item_at_place, place_of, item_place}
 use Rattle.grammar.specs.Parts.{part_at}
 use Rattle.grammar.specs.declared.item_places.ItemPlace.{ItemPlace}
 use Rattle.grammar.proofs.Spans.{part_inside, part_empty}
-use Rattle.grammar.proofs.ItemLaws.{fine, item-value, nonempty}
+use Rattle.grammar.proofs.ItemLaws.{item-value, nonempty}
 
 -- ---- past the end
 
@@ -61,9 +59,6 @@ module _ (s : List ℕ) (at : ℕ) (h : at ≤ length s) where
   -- the next place
   next_is : (item_place s at).next ≡ at + length item + 1
   next_is = rw place_is
-
-  pub next_after : at < (item_place s at).next
-  next_after = omega (arith, next_is)
 
   -- the parts
   name_part : part_at s (item_place s at).name ≡ (cut equals item).0
@@ -125,23 +120,33 @@ module _ (s : List ℕ) (at : ℕ) (h : at ≤ length s) where
   -- ---- as the code finds it: the item ends at `end`, and its name has the length `len`
 
   module _ (end : ℕ) (p : end ≡ at + find comma (drop at s)) (len : ℕ) (q : len ≡ 0 + find equals (take (end - at) (drop at s))) where
+    abbrev part : List ℕ
+    part = take (end - at) (drop at s)
+
+    part_is : part ≡ item
+    part_is =
+        let e : end - at ≡ find comma (drop at s) = omega arith in
+        ap (λ (n : ℕ). take n (drop at s)) e
+
     len_is : len ≡ find equals item
     len_is =
-        let e : end - at ≡ find comma (drop at s) = omega arith in
-        let z : len ≡ find equals (take (end - at) (drop at s)) = omega arith in
-        z ∙ ap (λ (n : ℕ). find equals (take n (drop at s))) e
+        let z : len ≡ find equals part = omega arith in
+        z ∙ ap (find equals) part_is
 
-    pub place_bare : end - at ≤ len → ◌≡◌ {A = ItemPlace} (record { name = span at len; value = span 0 0; next = end + 1 }) (item_place s at)
+    part_length : length part ≡ length item
+    part_length = ap length part_is
+
+    pub place_bare : length part ≤ len → ◌≡◌ {A = ItemPlace} (record { name = span at len; value = span 0 0; next = end + 1 }) (item_place s at)
     place_bare b =
-        let u = unfound equals item (omega (arith, len_is, size)) in
+        let u = unfound equals item (omega (arith, len_is, part_length)) in
         let n = len_is ∙ sym name_size in
         let e : end + 1 ≡ at + length item + 1 = omega (arith, size) in
         rw (place_is, u) (λ i. record { name = span at (n i); value = span 0 0; next = e i })
 
-    pub place_valued : len < end - at
+    pub place_valued : len < length part
         → ◌≡◌ {A = ItemPlace} (record { name = span at len; value = span (at + len + 1) (end - (at + len + 1)); next = end + 1 }) (item_place s at)
     place_valued b =
-        let f = found equals item (omega (arith, len_is, size)) in
+        let f = found equals item (omega (arith, len_is, part_length)) in
         let n = len_is ∙ sym name_size in
         let k : end - (at + len + 1) ≡ length (cut equals item).1 = omega (arith, value_size, len_is, size) in
         let e : end + 1 ≡ at + length item + 1 = omega (arith, size) in
@@ -158,16 +163,3 @@ module _ (s : List ℕ) (at : ℕ) (h : at ≤ length s) (w : ItemPlace) (q : w 
 
   pub items_found : items_from s at ≡ first ∷ others
   items_found = rw q (items_at s at h)
-
-  -- the rule of a parameter piece, after n items that keep theirs, goes on by this one
-  module _ (n : ℕ) where
-    pub fine_full : n ≡ most_items → fine n (items_from s at) ≡ false
-    fine_full m = rw (items_found, m, lt-leb (16 + suc (length others)) 16 (omega arith))
-
-    pub fine_bad : is_item first ≡ false → fine n (items_from s at) ≡ false
-    fine_bad i = rw (items_found, i, and-false)
-
-    pub fine_on : is_item first ≡ true → fine n (items_from s at) ≡ fine (n + 1) others
-    fine_on i =
-        let m : n + suc (length others) ≡ n + 1 + length others = omega arith in
-        rw (items_found, i) (ap (λ (k : ℕ). leb k most_items && all is_item others) m)

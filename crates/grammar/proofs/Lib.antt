@@ -8,3 +8,4 @@ pub mod Reading
 pub mod RuleLaws
 pub mod Longest
 pub mod Claims
+pub mod Chains

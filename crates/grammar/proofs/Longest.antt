@@ -1,7 +1,7 @@
 -- A string whose pieces keep their rules has at most 2,896 bytes, and a piece that is there is not empty.
 -- Assumes nothing.
 use Prim.Native.Nat.{ℕ, suc, ◌≤◌, ◌<◌, ◌+◌, ◌*◌}
-use mathlib.Core.Bool.{true, false, true≢false, false≢true}
+use mathlib.Core.Bool.{Bool, true, false, true≢false, false≢true}
 use mathlib.Core.List.{List, [], ◌∷◌, ◌++◌, map}
 use mathlib.Core.Option.{none, some}
 use mathlib.Core.Path.{◌≡◌, refl, sym, ◌∙◌, ap}
@@ -21,12 +21,11 @@ use Rattle.decimal.specs.declared.reader.Limited.{Limited}
 use Rattle.decimal.specs.declared.reader.Limited.TheVariants.{Malformed, Outside, Value}
 use Rattle.decimal.proofs.DecimalLaws.{length_digits}
 use Rattle.decimal.proofs.NumeralLaws.{digits_limited}
-use Rattle.grammar.specs.Bytes.{dollar, comma, equals, in_class, is_text}
+use Rattle.grammar.specs.Bytes.{dollar, comma, equals, is_text}
 use Rattle.grammar.specs.Limits.{longest_string}
 use Rattle.grammar.specs.Pieces.{OptionalText, Pieces, pieces, piece_in, after_id, string}
 use Rattle.grammar.specs.Items.{Item, item_text, items}
 use Rattle.grammar.specs.Rules.{is_name, is_value, is_item, is_params, version_reading, is_version, is_output, rule_of, breaks, piece_rows, grammar_number}
-use Rattle.grammar.specs.declared.classes.Class.{Class}
 use Rattle.grammar.specs.declared.places.Piece.{Piece}
 use Rattle.grammar.specs.declared.places.Piece.TheVariants.{Id, Version, Params, Salt, Output}
 use Rattle.grammar.proofs.ItemLaws.{item-name, item-value, join-items}
@@ -34,9 +33,9 @@ use Rattle.grammar.proofs.Reading.{accepted_rows}
 
 -- ---- lengths
 
-text-length : (class : Class) (most : ℕ) (s : List ℕ) → is_text class most s ≡ true → length s ≤ most
+text-length : (class : ℕ → Bool) (most : ℕ) (s : List ℕ) → is_text class most s ≡ true → length s ≤ most
 unfolding is_text
-text-length class most s e = (from_within 1 most (length s) (both (within 1 most (length s)) (all (in_class class) s) e).0).1
+text-length class most s e = (from_within 1 most (length s) (both (within 1 most (length s)) (all class s) e).0).1
 
 item-length : (i : Item) → is_item i ≡ true → length (item_text i) ≤ 161
 item-length i e =

@@ -32,11 +32,6 @@ pub bad_string_begins : (s : List ℕ) → bad_string s ≡ false → begins_wit
 unfolding bad_string
 bad_string_begins s b = is_true (begins_with_dollar s) (neither (empty s || not (leb (length s) longest_string)) (not (begins_with_dollar s)) b).1
 
-pub bad_string-none : (s : List ℕ) → length s < 1 → bad_string s ≡ true
-unfolding bad_string
-bad_string-none [] h = refl
-bad_string-none (c ∷ s) h = absurd (omega arith)
-
 pub bad_string_long : (s : List ℕ) → longest_string < length s → bad_string s ≡ true
 unfolding bad_string
 bad_string_long s h = rw (lt-leb (length s) longest_string h, or-true)

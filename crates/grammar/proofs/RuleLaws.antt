@@ -3,26 +3,24 @@
 use Prim.Native.Nat.{ℕ, ◌≤◌, ◌<◌}
 use mathlib.Core.Path.{◌≡◌, refl, ◌∙◌, ap}
 use mathlib.Core.List.{List, [], ◌∷◌}
-use mathlib.Core.Bool.{true, false, not}
+use mathlib.Core.Bool.{true, not}
 use native.Mathlib.Omega.{arith}
-use lib.Dec.{eqb}
 use lib.ListN.{length, drop}
 use Rattle.decimal.specs.Decimal.{is_decimal}
-use Rattle.decimal.specs.Numerals.{numeral, limited_reading, limited_number}
-use Rattle.decimal.specs.declared.reader.Limited.{Limited}
+use Rattle.decimal.specs.Numerals.{numeral, limited_reading}
 use Rattle.decimal.specs.declared.reader.Limited.TheVariants.{Malformed, Value}
 use Rattle.decimal.proofs.NumeralLaws.{digits_limited}
 use Rattle.grammar.specs.Limits.{largest_version}
 use Rattle.grammar.specs.Pieces.{pieces}
 use Rattle.grammar.specs.Items.{items, items_of}
-use Rattle.grammar.specs.Rules.{version_reading, is_version, rule_of, begins_with_dollar, breaks}
+use Rattle.grammar.specs.Rules.{version_reading, rule_of, begins_with_dollar, breaks}
 use Rattle.grammar.specs.Layout.{places_of, span_of}
 use Rattle.grammar.specs.Parts.{part_at}
 use Rattle.grammar.specs.declared.places.Piece.{Piece}
 use Rattle.grammar.specs.declared.places.Piece.TheVariants.{Params}
 use Rattle.grammar.specs.declared.places.Span.{Span}
 use Rattle.grammar.specs.declared.places.Places.{Places}
-use Rattle.grammar.proofs.Reading.{optional_absent, optional_present}
+use Rattle.grammar.proofs.Reading.{optional_present}
 
 pub version_none : (s : List ℕ) → length s < 2 → version_reading s ≡ Malformed
 unfolding version_reading limited_reading numeral is_decimal
@@ -35,23 +33,13 @@ pub version_most : (s : List ℕ) (n : ℕ) → version_reading s ≡ Value n �
 unfolding version_reading
 version_most s n e = (digits_limited 0 largest_version (drop 2 s) n e).2
 
-pub version_is : (s : List ℕ) (r : Limited) → r ≡ version_reading s → is_version s ≡ eqb (limited_number r) 0
-unfolding is_version
-version_is s r e = rw e
-
 module _ (s : List ℕ) (h : begins_with_dollar s ≡ true) (w : Piece) (places : Places) (e : places ≡ places_of (pieces s)) (v : Span) (q : v ≡ span_of places w) where
   same_place : v ≡ span_of (places_of (pieces s)) w
   same_place = q ∙ ap (λ (x : Places). span_of x w) e
-
-  pub keeps_absent : v.at ≡ 0 → breaks (pieces s) w ≡ false
-  keeps_absent z = rw (optional_absent s h w (rw same_place at z))
 
   pub keeps_present : (v.at ≡ 0 → ⊥) → breaks (pieces s) w ≡ not (rule_of w (part_at s v))
   keeps_present z = rw (optional_present s h w (rw same_place at z), same_place)
 
 module _ (s : List ℕ) (h : begins_with_dollar s ≡ true) (places : Places) (e : places ≡ places_of (pieces s)) where
-  pub items_absent : places.params.at ≡ 0 → length (items_of (pieces s).params) ≡ 0
-  items_absent z = rw (optional_absent s h Params (rw e at z))
-
   pub items_present : (places.params.at ≡ 0 → ⊥) → length (items_of (pieces s).params) ≡ length (items (part_at s places.params))
   items_present z = rw (optional_present s h Params (rw e at z), e)

@@ -1,19 +1,19 @@
 -- A step of the sorting from a place, and five of them: the sorted pieces of the string.
 -- Assumes nothing.
 use Prim.Native.Nat.{ℕ, suc, ◌+◌, ◌-◌, ◌≤◌, ◌<◌}
-use mathlib.Core.Path.{◌≡◌, refl, sym, ap, ◌∙◌}
+use mathlib.Core.Path.{◌≡◌, sym, ap, ◌∙◌}
 use mathlib.Core.List.{List, [], ◌∷◌}
-use mathlib.Core.Bool.{true, false, not, ◌&&◌, false≢true}
+use mathlib.Core.Bool.{true, false, not, false≢true}
 use native.Mathlib.Omega.{arith}
 use borrow.Author.Tests.{le-leb}
-use lib.Dec.{leb, eqb}
-use lib.ListN.{length, get_or, take, drop, length-drop}
+use lib.Dec.{leb}
+use lib.ListN.{length, take, drop, length-drop}
 use lib.Seq.{length-take-le}
 use Rattle.text.specs.Text.{find, empty, split, parts, head_if, tail_if, parts_from}
 use Rattle.text.proofs.Scanning.{find_from_le}
 use Rattle.text.proofs.Splitting.{from_to, from_past, some_from}
-use Rattle.grammar.specs.Bytes.{dollar, equals}
-use Rattle.grammar.specs.Pieces.{is_version_piece, belongs, after_first, pieces}
+use Rattle.grammar.specs.Bytes.{dollar}
+use Rattle.grammar.specs.Pieces.{belongs, after_first, pieces}
 use Rattle.grammar.specs.Rules.{begins_with_dollar}
 use Rattle.grammar.specs.Layout.{span, span_from, past}
 use Rattle.grammar.specs.SortingSteps.{Stepped, sorted_of}
@@ -85,15 +85,3 @@ module _ (s : List ℕ) (h : begins_with_dollar s ≡ true) (id version params s
         places = record { id = f₁ i; version = g₂ i; params = g₃ i; salt = g₄ i; output = g₅ i };
         more = g₆ i;
       }
-
--- ---- the version piece by its first two bytes
-
-pub version_short : (t : List ℕ) → length t < 2 → is_version_piece t ≡ false
-version_short [] h = refl
-version_short (c ∷ []) h = refl
-version_short (c ∷ d ∷ t) h = absurd (omega arith)
-
-pub version_long : (t : List ℕ) → 2 ≤ length t → is_version_piece t ≡ (eqb (get_or t 0 0) 118 && eqb (get_or t 1 0) equals)
-version_long [] h = absurd (omega arith)
-version_long (c ∷ []) h = absurd (omega arith)
-version_long (c ∷ d ∷ t) h = refl

@@ -30,15 +30,11 @@ abbrev pub Holds : List ℕ → Span → OptionalText → Type 0
 Holds s w none = w ≡ span 0 0
 Holds s w (some t) = (0 < w.at) × (part_at s w ≡ t)
 
--- the part of a span that lies inside, and of one that does not
+-- the part of a span that lies inside
 module _ (s : List ℕ) (w : Span) where
   pub part_inside : has_room (length s) w.at w.len.0 ≡ true → part_at s w ≡ take w.len.0 (drop w.at s)
   unfolding part_at
   part_inside h = rw h
-
-  pub part_outside : has_room (length s) w.at w.len.0 ≡ false → part_at s w ≡ []
-  unfolding part_at
-  part_outside h = rw h
 
 pub part_empty : (s : List ℕ) → part_at s (span 0 0) ≡ []
 unfolding part_at

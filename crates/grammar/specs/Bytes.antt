@@ -3,8 +3,6 @@
 -- Assumes nothing.
 use Rattle.std.specs.Prelude.{ℕ, Bool, ◌&&◌, ◌||◌, List, eqb, length}
 use Rattle.text.specs.Text.{within, all}
-use Rattle.grammar.specs.declared.classes.Class.{Class}
-use Rattle.grammar.specs.declared.classes.Class.TheVariants.{Name, Value}
 
 -- ---- separators: before each piece, between two items, and between an item's name and its value
 
@@ -27,10 +25,6 @@ is_name_byte c = within 97 122 c || within 48 57 c || eqb c 45
 unfoldable pub is_value_byte : ℕ → Bool
 is_value_byte c = within 97 122 c || within 65 90 c || within 48 57 c || eqb c 47 || eqb c 43 || eqb c 46 || eqb c 45
 
-abbrev pub in_class : Class → ℕ → Bool
-in_class Name c = is_name_byte c
-in_class Value c = is_value_byte c
-
--- 1 to `most` bytes, each of the class
-unfoldable pub is_text : Class → ℕ → List ℕ → Bool
-is_text class most s = within 1 most (length s) && all (in_class class) s
+-- 1 to `most` bytes, each of a class
+unfoldable pub is_text : (ℕ → Bool) → ℕ → List ℕ → Bool
+is_text class most s = within 1 most (length s) && all class s

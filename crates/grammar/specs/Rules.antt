@@ -6,21 +6,20 @@ use Rattle.text.specs.Rows.{Row, row, first_number}
 use Rattle.b64.specs.B64.{canonical}
 use Rattle.decimal.specs.Numerals.{limited_reading, limited_number}
 use Rattle.decimal.specs.declared.reader.Limited.{Limited}
-use Rattle.grammar.specs.Bytes.{dollar, is_text}
+use Rattle.grammar.specs.Bytes.{dollar, is_name_byte, is_value_byte, is_text}
 use Rattle.grammar.specs.Limits.{longest_name, longest_value, longest_output, most_items, largest_version, longest_string}
 use Rattle.grammar.specs.Pieces.{Pieces, pieces, piece_in}
 use Rattle.grammar.specs.Items.{Item, items}
-use Rattle.grammar.specs.declared.classes.Class.TheVariants.{Name, Value}
 use Rattle.grammar.specs.declared.places.Piece.{Piece}
 use Rattle.grammar.specs.declared.places.Piece.TheVariants.{Id, Version, Params, Salt, Output}
 
 -- an id, or the name of a parameter
 abbrev pub is_name : List ℕ → Bool
-is_name s = is_text Name longest_name s
+is_name s = is_text is_name_byte longest_name s
 
 -- the value of a parameter, or a salt
 abbrev pub is_value : List ℕ → Bool
-is_value s = is_text Value longest_value s
+is_value s = is_text is_value_byte longest_value s
 
 -- what stands after a version piece's `v=`, read as a number. Free answer: the first two bytes of any other text are not looked at
 unfoldable pub version_reading : List ℕ → Limited

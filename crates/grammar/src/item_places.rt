@@ -19,37 +19,31 @@ pub struct ItemPlace {
 pub fn item_place(params: &[u8], at: usize) -> ItemPlace
     ensures { result ≡ item_place params.now at }
 {
-    let none = Span {
-        at: 0,
-        len: Chars(0),
-    };
     if params.len() < at {
         return ItemPlace {
-            name: none,
-            value: none,
+            name: Span::NONE,
+            value: Span::NONE,
             next: at,
         };
     }
     let end = next_at(params, at, b',');
-    let len = next_at(&params[at..end], 0, b'=');
-    let name = Span {
-        at,
-        len: Chars(len),
-    };
-    if end - at <= len {
-        return ItemPlace {
-            name,
-            value: none,
-            next: end + 1,
-        };
-    }
-    let start = at + len + 1;
-    ItemPlace {
-        name,
-        value: Span {
+    let item = &params[at..end];
+    let len = next_at(item, 0, b'=');
+    let value = if len < item.len() {
+        let start = at + len + 1;
+        Span {
             at: start,
             len: Chars(end - start),
+        }
+    } else {
+        Span::NONE
+    };
+    ItemPlace {
+        name: Span {
+            at,
+            len: Chars(len),
         },
+        value,
         next: end + 1,
     }
 }

@@ -3,7 +3,6 @@
 #![tactic(auto)]
 
 pub mod bytes;
-mod classes;
 pub mod item_places;
 mod items;
 pub mod limits;
@@ -14,4 +13,5 @@ pub mod pieces;
 pub mod places;
 mod rules;
 mod sorting;
+mod values;
 pub mod version;

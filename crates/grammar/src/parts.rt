@@ -2,7 +2,7 @@
 ghost use Rattle.std.specs.Prelude.{◌≡◌};
 ghost use Rattle.grammar.specs.Parts.{piece_text, item_at};
 
-use crate::items::{name_part, value_part};
+use crate::items::name_and_value;
 use crate::pieces::read;
 use crate::places::{Piece, part, span_of};
 use text::scan::nth_part;
@@ -11,21 +11,19 @@ use text::scan::nth_part;
 pub fn piece(s: &[u8], which: Piece) -> &[u8]
     ensures { result.now ≡ piece_text s.now which }
 {
-    let layout = read(s);
-    let places = layout.places;
-    part(s, span_of(places, which))
+    part(s, span_of(read(s).places, which))
 }
 
 // The name of the item at an index from 0; empty past the last, or where the string is refused.
 pub fn item_name(s: &[u8], index: usize) -> &[u8]
     ensures { result.now ≡ (item_at s.now index).0 }
 {
-    name_part(nth_part(piece(s, Piece::Params), b',', index))
+    name_and_value(nth_part(piece(s, Piece::Params), b',', index)).0
 }
 
 // The value of the item at an index from 0; empty past the last, or where the string is refused.
 pub fn item_value(s: &[u8], index: usize) -> &[u8]
     ensures { result.now ≡ (item_at s.now index).1 }
 {
-    value_part(nth_part(piece(s, Piece::Params), b',', index))
+    name_and_value(nth_part(piece(s, Piece::Params), b',', index)).1
 }

@@ -6,7 +6,6 @@ use crate::numbers::BAD_STRING;
 use crate::places::{Places, Span};
 use crate::rules::{bad_string, items_of, number_of};
 use crate::sorting::sort;
-use text::units::Chars;
 
 // What the reader gives; on refusal every place, length and count is 0.
 #[derive(Clone, Copy)]
@@ -19,24 +18,21 @@ pub struct Layout {
 fn refused(number: u8) -> Layout
     ensures { result ≡ refused_layout number }
 {
-    let none = Span {
-        at: 0,
-        len: Chars(0),
-    };
     Layout {
         number,
         places: Places {
-            id: none,
-            version: none,
-            params: none,
-            salt: none,
-            output: none,
+            id: Span::NONE,
+            version: Span::NONE,
+            params: Span::NONE,
+            salt: Span::NONE,
+            output: Span::NONE,
         },
         items: 0,
     }
 }
 
 // The grammar reader: the first of rows 1 to 7 that applies, or the places and the number of items.
+#[tactic(auto, using(crate::proofs::Reading::bad_string_begins))]
 pub fn read(s: &[u8]) -> Layout
     ensures { result ≡ layout s.now }
 {
@@ -48,11 +44,9 @@ pub fn read(s: &[u8]) -> Layout
     if number != 0 {
         return refused(number);
     }
-    let places = sorted.places;
-    let items = items_of(s, places);
     Layout {
         number: 0,
-        places,
-        items,
+        places: sorted.places,
+        items: items_of(s, sorted.places),
     }
 }

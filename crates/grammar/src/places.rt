@@ -23,6 +23,14 @@ pub struct Span {
     pub len: Chars,
 }
 
+impl Span {
+    // The span of what is not there.
+    pub const NONE: Span = Span {
+        at: 0,
+        len: Chars(0),
+    };
+}
+
 // Where the five pieces stand.
 #[derive(Clone, Copy)]
 pub struct Places {
@@ -47,14 +55,13 @@ pub fn span_of(places: Places, which: Piece) -> Span
 }
 
 // The part at a place and of a length. Free answer: empty where it doesn't lie inside.
+#[tactic(auto, unfolding(crate::specs::Parts::part_at))]
 pub fn part(s: &[u8], span: Span) -> &[u8]
     ensures { result.now ≡ part_at s.now span }
 {
-    let at = span.at;
-    let len = span.len.0;
-    if has_room(s.len(), at, len) {
-        let end = at + len;
-        return &s[at..end];
+    if has_room(s.len(), span.at, span.len.0) {
+        &s[span.at..span.at + span.len.0]
+    } else {
+        &[]
     }
-    &s[0..0]
 }

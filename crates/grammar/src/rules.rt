@@ -7,50 +7,37 @@ ghost use Rattle.grammar.specs.Rules.{is_version, is_output, rule_of, begins_wit
 ghost use Rattle.grammar.specs.Layout.{places_of};
 ghost use Rattle.grammar.specs.SortingSteps.{sorted_of};
 
-use crate::classes::{Class, is_text};
 use crate::items::{is_params, item_count};
-use crate::limits::{LONGEST_OUTPUT, LONGEST_STRING, LONGEST_VALUE};
+use crate::limits::{LONGEST_OUTPUT, LONGEST_STRING};
 use crate::names::is_name;
 use crate::numbers::{BAD_ID, BAD_OUTPUT, BAD_PARAMETERS, BAD_SALT, BAD_VERSION, TOO_MANY_PIECES};
 use crate::places::{Piece, Places, part, span_of};
 use crate::sorting::Sorted;
+use crate::values::is_value;
 use crate::version::version_number;
 use b64::canonical::is_canonical;
 use decimal::reader::Limited;
 
 // Row 1.
+#[tactic(auto, unfolding(crate::specs::Rules::bad_string))]
 pub fn bad_string(s: &[u8]) -> bool
     ensures { result ≡ bad_string s.now }
 {
-    if s.len() < 1 {
-        return true;
-    }
-    if LONGEST_STRING < s.len() {
-        return true;
-    }
-    s[0] != b'$'
+    LONGEST_STRING < s.len() || s.first() != Some(&b'$')
 }
 
+#[tactic(auto, unfolding(crate::specs::Rules::is_version))]
 fn is_version(text: &[u8]) -> bool
     ensures { result ≡ is_version text.now }
 {
-    match version_number(text) {
-        Limited::Malformed => false,
-        Limited::Outside => false,
-        Limited::Value(_) => true,
-    }
+    matches!(version_number(text), Limited::Value(_))
 }
 
+#[tactic(auto, unfolding(crate::specs::Rules::is_output))]
 fn is_output(text: &[u8]) -> bool
     ensures { result ≡ is_output text.now }
 {
-    if text.len() < 1 {
-        return false;
-    }
-    if LONGEST_OUTPUT.0 < text.len() {
-        return false;
-    }
-    is_canonical(text)
+    (1..=LONGEST_OUTPUT.0).contains(&text.len()) && is_canonical(text)
 }
 
 // Whether a text keeps the rule of its piece.
@@ -61,21 +48,19 @@ fn keeps_rule(text: &[u8], which: Piece) -> bool
         Piece::Id => is_name(text),
         Piece::Version => is_version(text),
         Piece::Params => is_params(text),
-        Piece::Salt => is_text(text, Class::Value, LONGEST_VALUE),
+        Piece::Salt => is_value(text),
         Piece::Output => is_output(text),
     }
 }
 
 // Rows 2 to 6: whether a piece that is there breaks its rule.
+#[tactic(auto, using(crate::proofs::RuleLaws::keeps_present))]
 fn breaks(s: &[u8], places: Places, which: Piece) -> bool
     requires { (begins_with_dollar s.now ≡ true) × (places ≡ places_of (pieces s.now)) }
     ensures { result ≡ breaks (pieces s.now) which }
 {
     let span = span_of(places, which);
-    if span.at == 0 {
-        return false;
-    }
-    !keeps_rule(part(s, span), which)
+    span.at != 0 && !keeps_rule(part(s, span), which)
 }
 
 // Rows 2 to 7: the first that applies.
@@ -103,13 +88,14 @@ pub fn number_of(s: &[u8], sorted: Sorted) -> u8
 }
 
 // The number of items; 0 where there is no parameter piece.
+#[tactic(auto, using(crate::proofs::RuleLaws::items_present))]
 pub fn items_of(s: &[u8], places: Places) -> usize
     requires { (begins_with_dollar s.now ≡ true) × (places ≡ places_of (pieces s.now)) }
     ensures { result ≡ length (items_of (pieces s.now).params) }
 {
-    let span = places.params;
-    if span.at == 0 {
-        return 0;
+    if places.params.at == 0 {
+        0
+    } else {
+        item_count(part(s, places.params))
     }
-    item_count(part(s, span))
 }

@@ -1,6 +1,6 @@
 // Sorting the pieces of a string: the id, then the version, the parameters, the salt and the output where they are there.
 ghost use Rattle.std.specs.Prelude.{◌≡◌, true};
-ghost use Rattle.grammar.specs.Pieces.{is_version_piece, belongs, pieces};
+ghost use Rattle.grammar.specs.Pieces.{belongs, pieces};
 ghost use Rattle.grammar.specs.Rules.{begins_with_dollar};
 ghost use Rattle.grammar.specs.SortingSteps.{Stepped, sorted_of};
 
@@ -22,57 +22,35 @@ pub struct Step {
     pub next: usize,
 }
 
-fn begins_version(text: &[u8]) -> bool
-    ensures { result ≡ is_version_piece text.now }
-{
-    if text.len() < 2 {
-        return false;
-    }
-    if text[0] != b'v' {
-        return false;
-    }
-    text[1] == b'='
-}
-
 fn is_next(text: &[u8], which: Piece) -> bool
     ensures { result ≡ belongs which text.now }
 {
     match which {
-        Piece::Id => true,
-        Piece::Version => begins_version(text),
-        Piece::Params => next_at(text, 0, b'=') < text.len(),
-        Piece::Salt => true,
-        Piece::Output => true,
+        Piece::Version => text.starts_with(b"v="),
+        Piece::Params => text.contains(&b'='),
+        Piece::Id | Piece::Salt | Piece::Output => true,
     }
 }
 
+#[tactic(auto, using(crate::proofs::SortLaws::stepped_past, crate::proofs::SortLaws::stepped_to, crate::proofs::SortLaws::stepped_not, text::proofs::Scanning::find_from_le))]
 fn take_piece(s: &[u8], at: usize, which: Piece) -> Step
     ensures { Stepped s.now which at result.span result.next }
 {
-    let none = Span {
-        at: 0,
-        len: Chars(0),
-    };
-    if s.len() < at {
-        return Step {
-            span: none,
-            next: at,
-        };
+    if at <= s.len() {
+        let end = next_at(s, at, b'$');
+        if is_next(&s[at..end], which) {
+            return Step {
+                span: Span {
+                    at,
+                    len: Chars(end - at),
+                },
+                next: end + 1,
+            };
+        }
     }
-    let end = next_at(s, at, b'$');
-    if is_next(&s[at..end], which) {
-        Step {
-            span: Span {
-                at,
-                len: Chars(end - at),
-            },
-            next: end + 1,
-        }
-    } else {
-        Step {
-            span: none,
-            next: at,
-        }
+    Step {
+        span: Span::NONE,
+        next: at,
     }
 }
 
@@ -86,18 +64,13 @@ pub fn sort(s: &[u8]) -> Sorted
     let c = take_piece(s, b.next, Piece::Params);
     let d = take_piece(s, c.next, Piece::Salt);
     let e = take_piece(s, d.next, Piece::Output);
-    let id = a.span;
-    let version = b.span;
-    let params = c.span;
-    let salt = d.span;
-    let output = e.span;
     Sorted {
         places: Places {
-            id,
-            version,
-            params,
-            salt,
-            output,
+            id: a.span,
+            version: b.span,
+            params: c.span,
+            salt: d.span,
+            output: e.span,
         },
         more: e.next <= s.len(),
     }

@@ -7,11 +7,12 @@ use decimal::reader::{Limited, read_within};
 
 // What stands after a version piece's `v=`, read as a number from 0 to 4,294,967,295. Free answer: the first two bytes are not
 // looked at.
+#[tactic(auto, unfolding(crate::specs::Rules::version_reading))]
 pub fn version_number(text: &[u8]) -> Limited
     ensures { result ≡ version_reading text.now }
 {
-    if text.len() < 2 {
-        return Limited::Malformed;
+    match text.get(2..) {
+        Some(number) => read_within(number, 0, LARGEST_VERSION),
+        None => Limited::Malformed,
     }
-    read_within(&text[2..], 0, LARGEST_VERSION)
 }

@@ -14,7 +14,7 @@ use text::units::Bytes;
 pub fn in_range(rule: NumberRule, n: u32) -> bool
     ensures { result ≡ in_range rule n }
 {
-    lowest_of(rule) <= n && n <= highest_of(rule)
+    (lowest_of(rule)..=highest_of(rule)).contains(&n)
 }
 
 // m < 8p, tested without a product that can wrap.
@@ -29,10 +29,7 @@ pub fn is_size(rule: BytesRule, size: Bytes) -> bool
     ensures { result ≡ is_size rule size.0 }
 {
     match rule {
-        BytesRule::Sized { low, high } => {
-            let n = size.0;
-            low.0 <= n && n <= high.0
-        }
+        BytesRule::Sized { low, high } => (low.0..=high.0).contains(&size.0),
         BytesRule::Forbidden => false,
     }
 }
@@ -42,7 +39,7 @@ fn is_listed(versions: Versions, n: u32) -> bool
 {
     match versions {
         Versions::Never => false,
-        Versions::Either(a, b) => a == n || b == n,
+        Versions::Either(a, b) => [a, b].contains(&n),
     }
 }
 

@@ -77,6 +77,7 @@ fn pbkdf2(name: usize) -> Column
     }
 }
 
+#[tactic(auto, unfolding(crate::specs::Limits::edition_two, crate::specs::Columns::name_in, grammar::specs::Parts::part_at))]
 fn no_profile() -> Column
     ensures { (profile_in result ≡ no_profile) × (result.name ≡ 0) }
 {
@@ -103,24 +104,14 @@ fn no_profile() -> Column
     }
 }
 
-fn index(id: u8) -> usize
-    ensures { result ≡ id }
-{
-    id as usize
-}
-
 // The column of an id by its number. Free answer: of another number that of no profile.
+#[tactic(auto, using(crate::proofs::ColumnLaws::column_argon2, crate::proofs::ColumnLaws::column_pbkdf2, crate::proofs::ColumnLaws::column_other))]
 pub fn column_of(id: u8) -> Column
     ensures { (profile_in result ≡ profile_of edition_two id) × (result.name ≡ name_index id) }
 {
-    if id < 1 {
-        return no_profile();
+    match id {
+        1..=3 => argon2(usize::from(id)),
+        4..=5 => pbkdf2(usize::from(id)),
+        _ => no_profile(),
     }
-    if id < 4 {
-        return argon2(index(id));
-    }
-    if id < 6 {
-        return pbkdf2(index(id));
-    }
-    no_profile()
 }

@@ -13,14 +13,14 @@ pub enum NumberRule {
     Constant { value: u32 },
 }
 
-// A byte string: of `low` to `high` bytes, left out where it is empty; or always empty.
+// A byte string: of `low` to `high` bytes, left out where it is empty; or always empty. An enum of its own: specs/Limits.antt is stated on it.
 #[derive(Clone, Copy)]
 pub enum BytesRule {
     Sized { low: Bytes, high: Bytes },
     Forbidden,
 }
 
-// The versions that may be written: none, or one of two. A version may always be absent.
+// The versions that may be written: none, or one of two. A version may always be absent. An enum of its own: the public `version_allowed` takes it.
 #[derive(Clone, Copy)]
 pub enum Versions {
     Never,

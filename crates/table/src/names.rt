@@ -6,7 +6,7 @@ use grammar::places::{Span, part};
 use text::units::Chars;
 
 // Names stand at the indexes 1 to 5; the one at 0 is empty.
-pub const NAME_COUNT: usize = 6;
+const NAME_COUNT: usize = 6;
 
 // A name takes nine bytes: its length, its bytes, and zeros after a short one.
 const STRIDE: usize = 9;
@@ -15,28 +15,23 @@ const STRIDE: usize = 9;
 pub const NAMES: [u8; 54] =
     *b"\0\0\0\0\0\0\0\0\0\x07argon2d\0\x07argon2i\0\x08argon2id\x08pbkdf2s2\x08pbkdf2s3";
 
-fn wide(x: u8) -> usize
-    ensures { result ≡ x }
-{
-    x as usize
-}
-
 // The name at an index of the table. Free answer: empty past the last.
+#[tactic(auto, unfolding(crate::specs::Columns::name_in, grammar::specs::Parts::part_at))]
 pub fn name_at(names: &[u8], index: usize) -> &[u8]
     ensures { result.now ≡ name_in names.now index }
 {
     if NAME_COUNT <= index {
-        return &names[0..0];
+        return &[];
     }
     let at = index * STRIDE;
-    if names.len() <= at {
-        return &names[0..0];
-    }
+    let Some(&len) = names.get(at) else {
+        return &[];
+    };
     part(
         names,
         Span {
             at: at + 1,
-            len: Chars(wide(names[at])),
+            len: Chars(usize::from(len)),
         },
     )
 }

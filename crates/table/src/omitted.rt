@@ -8,15 +8,7 @@ use crate::limits::NumberRule;
 pub fn is_required(rule: NumberRule) -> bool
     ensures { result ≡ is_required rule }
 {
-    match rule {
-        NumberRule::Required { low: _, high: _ } => true,
-        NumberRule::Defaulted {
-            low: _,
-            high: _,
-            default: _,
-        } => false,
-        NumberRule::Constant { value: _ } => false,
-    }
+    matches!(rule, NumberRule::Required { .. })
 }
 
 // The number that stands for one that is left out. Free answer: 0 for one that is required.
@@ -24,12 +16,8 @@ pub fn default_of(rule: NumberRule) -> u32
     ensures { result ≡ default_of rule }
 {
     match rule {
-        NumberRule::Required { low: _, high: _ } => 0,
-        NumberRule::Defaulted {
-            low: _,
-            high: _,
-            default,
-        } => default,
+        NumberRule::Required { .. } => 0,
+        NumberRule::Defaulted { default, .. } => default,
         NumberRule::Constant { value } => value,
     }
 }
@@ -39,12 +27,8 @@ pub fn is_omitted(rule: NumberRule, n: u32) -> bool
     ensures { result ≡ is_omitted rule n }
 {
     match rule {
-        NumberRule::Required { low: _, high: _ } => false,
-        NumberRule::Defaulted {
-            low: _,
-            high: _,
-            default,
-        } => n == default,
-        NumberRule::Constant { value: _ } => true,
+        NumberRule::Required { .. } => false,
+        NumberRule::Defaulted { default, .. } => n == default,
+        NumberRule::Constant { .. } => true,
     }
 }

@@ -9,12 +9,7 @@ pub fn lowest_of(rule: NumberRule) -> u32
     ensures { result ≡ lowest rule }
 {
     match rule {
-        NumberRule::Required { low, high: _ } => low,
-        NumberRule::Defaulted {
-            low,
-            high: _,
-            default: _,
-        } => low,
+        NumberRule::Required { low, .. } | NumberRule::Defaulted { low, .. } => low,
         NumberRule::Constant { value } => value,
     }
 }
@@ -24,12 +19,7 @@ pub fn highest_of(rule: NumberRule) -> u32
     ensures { result ≡ highest rule }
 {
     match rule {
-        NumberRule::Required { low: _, high } => high,
-        NumberRule::Defaulted {
-            low: _,
-            high,
-            default: _,
-        } => high,
+        NumberRule::Required { high, .. } | NumberRule::Defaulted { high, .. } => high,
         NumberRule::Constant { value } => value,
     }
 }

@@ -1,6 +1,6 @@
 // The version field.
 
-// A version field: absent, or the number written. Absent is a case of its own.
+// A version field: absent, or the number written. The rules ask for an enum of its own: absent is a content.
 #[derive(Clone, Copy)]
 pub enum Version {
     Absent,

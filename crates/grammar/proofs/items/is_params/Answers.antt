@@ -1,50 +1,37 @@
 -- `grammar::items::is_params` meets its contract. Assumes nothing.
-use mathlib.Core.Path.{◌≡◌, refl, ◌∙◌, sym, ap}
+use Prim.Native.Nat.{ℕ, ◌<◌, ◌≤◌}
+use mathlib.Core.List.{List}
+use mathlib.Core.Path.{◌∙◌, ap}
 use native.Mathlib.Omega.{arith}
-use Rattle.grammar.specs.Rules.{is_item}
-use Rattle.grammar.specs.Parts.{part_at}
-use Rattle.grammar.specs.ItemPlaces.{item_place}
-use Rattle.grammar.specs.declared.item_places.ItemPlace.{ItemPlace}
-use Rattle.grammar.proofs.ItemLaws.{items_start, fine, fine_start, fine_end}
-use Rattle.grammar.proofs.ItemPlaces.{items-past, next_after, fine_full, fine_bad, fine_on}
+use borrow.Author.Tests.{le-leb, lt-leb}
+use lib.Dec.{eqb}
+use lib.ListN.{length}
+use Rattle.std.proofs.Common.{rules, tests}
+use Rattle.std.proofs.lemmas.Iterator.Search.{all_from_yields_List}
+use Rattle.std.proofs.lemmas.Iterator.Splits.{YieldsList-from_slice_split}
+use Rattle.std.specs.List.{list_all}
+use Rattle.text.specs.Text.{cut, parts}
+use Rattle.grammar.specs.Items.{items}
+use Rattle.grammar.specs.Rules.{is_item, is_params}
+use Rattle.grammar.proofs.Chains.{list_all_is, all-map, split-parts}
 use Rattle.grammar.proofs.items.is_params.Goals as goal
 
-pub loop-at-init : goal.loop-at-init
-loop-at-init c =
+pub returns-then-item_count-le-MOST_ITEMS : goal.returns-then-item_count-le-MOST_ITEMS
+unfolding is_params
+returns-then-item_count-le-MOST_ITEMS c =
     let s = c.args.params.now in
-    (omega arith, fine_start s ∙ ap (fine 0) (items_start s))
+    let few : length (items s) ≤ 16 = omega arith in
+    rw (le-leb (length (items s)) 16 few)
+    (all_from_yields_List (λ (t : List ℕ). is_item (cut 61 t)) _ _ _ c.all.ensures.ran
+    (YieldsList-from_slice_split _ (λ (b : ℕ). eqb b 44) s c.split.ensures.rest c.split.ensures.done c.split.ensures.closure (λ x b q k. search (rules, tests)))
+    (λ x b q k. search (rules, tests))
+    ∙ ap (list_all (λ (t : List ℕ). is_item (cut 61 t))) (split-parts 44 s)
+    ∙ list_all_is (λ (t : List ℕ). is_item (cut 61 t)) (parts 44 s)
+    ∙ all-map is_item (cut 61) (parts 44 s))
 
-pub returns-then-n-eq-MOST_ITEMS : goal.returns-then-n-eq-MOST_ITEMS
-returns-then-n-eq-MOST_ITEMS c =
-    let l = c.loop-at in
+pub returns-else-item_count-le-MOST_ITEMS : goal.returns-else-item_count-le-MOST_ITEMS
+unfolding is_params
+returns-else-item_count-le-MOST_ITEMS c =
     let s = c.args.params.now in
-    sym (l.invariant.1 ∙ fine_full s l.at c.loop-at-test.true (item_place s l.at) refl l.n c.if-n-eq-MOST_ITEMS.true)
-
-pub returns-then-not-is_item : goal.returns-then-not-is_item
-returns-then-not-is_item c =
-    let judged : let s = c.args.params.now in c.is_item.result ≡ is_item (part_at s c.item_place-item.result.name, part_at s c.item_place-item.result.value) = c.is_item.ensures ∙ (λ i. is_item (c.part.ensures i, c.part-in-loop-at.ensures i)) in
-    let l = c.loop-at in
-    sym (l.invariant.1
-    ∙ fine_bad c.args.params.now l.at c.loop-at-test.true c.item_place-item.result c.item_place-item.ensures l.n
-    (sym judged ∙ c.if-not-is_item.true))
-
-pub loop-at-smaller : goal.loop-at-smaller
-loop-at-smaller c =
-    let h = c.loop-at-test.true in
-    let e = ap (λ (w : ItemPlace). w.next) c.item_place-item.ensures in
-    omega (arith, next_after c.args.params.now c.loop-at.at h)
-
-pub loop-at-preserved : goal.loop-at-preserved
-loop-at-preserved c =
-    let judged : let s = c.args.params.now in c.is_item.result ≡ is_item (part_at s c.item_place-item.result.name, part_at s c.item_place-item.result.value) = c.is_item.ensures ∙ (λ i. is_item (c.part.ensures i, c.part-in-loop-at.ensures i)) in
-    let l = c.loop-at in (
-      omega arith,
-      l.invariant.1
-          ∙ fine_on c.args.params.now l.at c.loop-at-test.true c.item_place-item.result c.item_place-item.ensures l.n
-          (sym judged ∙ c.if-not-is_item.false),
-    )
-
-pub returns : goal.returns
-returns c =
-    let l = c.loop-at in
-    sym (l.invariant.1 ∙ ap (fine l.n) (items-past c.args.params.now l.at c.loop-at-test.false) ∙ fine_end l.n l.invariant.0)
+    let many : 16 < length (items s) = omega arith in
+    rw (lt-leb (length (items s)) 16 many, lt-leb c.item_count.result 16 c.if-item_count-le-MOST_ITEMS.false)

@@ -7,5 +7,5 @@ use Rattle.grammar.proofs.parts.item_value.Goals as goal
 pub returns : goal.returns
 returns c =
     let a = c.args in
-    c.value_part.ensures
+    c.name_and_value.ensures.value
     ∙ ap (λ (i : Item). i.1) (item_is a.s.now a.index c.piece.result.now c.nth_part.result.now c.piece.ensures c.nth_part.ensures)

@@ -10,5 +10,5 @@ pub returns : goal.returns
 returns c =
     let a = c.args in
     c.part.ensures
-    ∙ ap (part_at a.s.now) (c.span_of.ensures ∙ ap (λ (l : Layout). span_of l.places a.which) c.read-layout.ensures)
+    ∙ ap (part_at a.s.now) (c.span_of.ensures ∙ ap (λ (l : Layout). span_of l.places a.which) c.read.ensures)
     ∙ layout_part a.s.now a.which
