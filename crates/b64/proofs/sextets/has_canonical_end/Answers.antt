@@ -3,18 +3,21 @@ use native.Mathlib.Omega.{arith}
 use Prim.Native.Nat.{ℕ, ◌%◌}
 use mathlib.Core.Path.{◌∙◌, ap}
 use lib.Dec.{eqb}
+use lib.ListN.{length}
+use Rattle.b64.specs.B64.{sextet}
 use Rattle.b64.proofs.B64Code.{ends_0, ends_2, ends_3}
 use Rattle.b64.proofs.sextets.has_canonical_end.Goals as goal
 
-pub returns-then-rest-eq0 : goal.returns-then-rest-eq0
-returns-then-rest-eq0 c = ends_0 c.args.text.now (omega arith)
+pub returns-in_default : goal.returns-in_default
+returns-in_default c = ends_0 c.args.text.now (omega (arith, c.in_default.ensures.item.3))
 
-pub returns-then-rest-eq2 : goal.returns-then-rest-eq2
-returns-then-rest-eq2 c =
-    let t = c.args.text.now in
-    ap (λ (x : ℕ). eqb (x % 16) 0) c.sextet_of-last.ensures ∙ ends_2 t (omega arith)
+pub returns-in-0 : goal.returns-in-0
+returns-in-0 c = ends_0 c.args.text.now c.in-0.is
 
-pub returns-else-rest-eq2 : goal.returns-else-rest-eq2
-returns-else-rest-eq2 c =
-    let t = c.args.text.now in
-    ap (λ (x : ℕ). eqb (x % 4) 0) c.sextet_of-last.ensures ∙ ends_3 t (omega arith)
+pub returns-in-2 : goal.returns-in-2
+returns-in-2 c =
+    ap (λ (x : ℕ). eqb (x % 16) 0) (c.sextet_of-last.ensures ∙ ap sextet (c.in-Some.ensures.item.3.1 0)) ∙ ends_2 c.args.text.now c.in-2.is
+
+pub returns-in_default-2 : goal.returns-in_default-2
+returns-in_default-2 c =
+    ap (λ (x : ℕ). eqb (x % 4) 0) (c.sextet_of-last.ensures ∙ ap sextet (c.in-Some.ensures.item.3.1 0)) ∙ ends_3 c.args.text.now (omega arith)
