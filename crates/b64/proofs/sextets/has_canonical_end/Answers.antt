@@ -3,7 +3,6 @@ use native.Mathlib.Omega.{arith}
 use Prim.Native.Nat.{ℕ, ◌%◌}
 use mathlib.Core.Path.{◌∙◌, ap}
 use lib.Dec.{eqb}
-use lib.ListN.{length}
 use Rattle.b64.specs.B64.{sextet}
 use Rattle.b64.proofs.B64Code.{ends_0, ends_2, ends_3}
 use Rattle.b64.proofs.sextets.has_canonical_end.Goals as goal
