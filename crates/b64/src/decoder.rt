@@ -58,11 +58,6 @@ fn decode_rest(table: &[u8; 256], s: &[u8], i: usize, out: &mut [u8], o: usize) 
     requires sextets { Sextets table.now }
     ensures { RunGives s.now i out.old o out.new result }
 {
-    let stopped = Run {
-        next: i,
-        end: o,
-        complete: false,
-    };
     let a = sextet_at(table, s, i);
     if 63 < a {
         return Run {
@@ -71,42 +66,32 @@ fn decode_rest(table: &[u8; 256], s: &[u8], i: usize, out: &mut [u8], o: usize) 
             complete: true,
         };
     }
-    let b = sextet_at(table, s, i + 1);
-    if 63 < b {
-        return stopped;
-    }
     let room = out.len() - o;
+    let b = sextet_at(table, s, i + 1);
     let c = sextet_at(table, s, i + 2);
-    if 63 < c {
-        if room < 1 {
-            return stopped;
-        }
-        if b % 16 == 0 {
+    match (b, c) {
+        (0..64, 64..) if 1 <= room && b % 16 == 0 => {
             put_one(out, o, a, b);
-            return Run {
+            Run {
                 next: i + 2,
                 end: o + 1,
                 complete: true,
-            };
+            }
         }
-        return stopped;
+        (0..64, 0..64) if 2 <= room && 63 < sextet_at(table, s, i + 3) && c % 4 == 0 => {
+            put_two(out, o, a, b, c);
+            Run {
+                next: i + 3,
+                end: o + 2,
+                complete: true,
+            }
+        }
+        _ => Run {
+            next: i,
+            end: o,
+            complete: false,
+        },
     }
-    if room < 2 {
-        return stopped;
-    }
-    let d = sextet_at(table, s, i + 3);
-    if d < 64 {
-        return stopped;
-    }
-    if c % 4 == 0 {
-        put_two(out, o, a, b, c);
-        return Run {
-            next: i + 3,
-            end: o + 2,
-            complete: true,
-        };
-    }
-    stopped
 }
 
 // The run at a place, decoded as far as it goes into `out` from a place on: all of it, where it is a canonical text and its bytes fit; else whole
