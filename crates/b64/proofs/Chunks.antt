@@ -4,7 +4,7 @@ use Prim.Native.Nat.{ℕ, zero, suc, ◌+◌, ◌-◌, ◌*◌, ◌/◌, ◌<◌
 use mathlib.Core.Path.{◌≡◌, refl, ap, ◌∙◌}
 use mathlib.Core.List.{List, []}
 use native.Mathlib.Omega.{arith}
-use lib.ListN.{length, get_or, take, drop}
+use lib.ListN.{length, get_or, take, drop, length-drop}
 use lib.Seq.{drop-drop}
 use Rattle.std.proofs.lemmas.List.{get_or-take, get_or-drop}
 use Rattle.std.specs.Simd.{first_chunks}
@@ -17,6 +17,10 @@ chunk_at n (suc k) zero xs y h = let e : 0 * n ≡ 0 = omega arith in rw e refl
 chunk_at n (suc k) (suc j) xs y h =
     let e : n + j * n ≡ suc j * n = omega arith in
     chunk_at n k j (drop n xs) y (omega arith) ∙ ap (take n) (drop-drop (j * n) n xs ∙ ap (λ (i : ℕ). drop i xs) e)
+
+-- how long the rest of a slice is
+pub rest_len : (s : List ℕ) (at : ℕ) → length (take (length s - at) (drop at s)) ≡ length s - at
+rest_len s at = ap length (tail_part s at) ∙ length-drop at s
 
 -- four characters by themselves, and at their place
 pub group_taken : (s : List ℕ) (i : ℕ) (g : List ℕ) → g ≡ take 4 (drop i s) → group_at g 0 ≡ group_at s i

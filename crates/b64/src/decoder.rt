@@ -120,7 +120,7 @@ pub fn decode_run(s: &[u8], at: usize, out: &mut [u8], from: usize) -> Run
 }
 
 // The groups of a canonical text, from the start of a buffer that has room for its bytes; two a turn, since one a turn takes 7 % more instructions.
-fn decode_whole(table: &[u8; 256], text: &[u8], out: &mut [u8])
+fn decode_pairs(table: &[u8; 256], text: &[u8], out: &mut [u8])
     requires text_value { canonical text.now ≡ true }
     requires text_in_bounds { length (decode text.now) ≤ length out.old }
     requires sextets { Sextets table.now }
@@ -144,7 +144,7 @@ fn decode_all(table: &[u8; 256], text: &[u8], out: &mut [u8])
     requires sextets { Sextets table.now }
     ensures { out.new ≡ decode text.now ++ drop (length (decode text.now)) out.old }
 {
-    decode_whole(table, text, out);
+    decode_pairs(table, text, out);
     let count = text.len() / 4;
     decode_rest(table, text, count * 4, out, count * 3);
 }

@@ -1,12 +1,10 @@
 -- `b64::decoder::decode_groups` meets its contract. Assumes nothing.
-use Prim.Native.Nat.{◌+◌, ◌-◌, ◌*◌}
-use mathlib.Core.Path.{◌≡◌, ap, ◌∙◌}
+use Prim.Native.Nat.{◌+◌, ◌*◌}
+use mathlib.Core.Path.{◌≡◌}
 use native.Mathlib.Omega.{arith}
-use lib.ListN.{length, take, drop, length-drop}
 use lib.Seq.{length-take-le}
-use Rattle.text.proofs.Writing.{tail_part}
 use Rattle.b64.proofs.RunLaws.{reached_start, reached_more, stopped_other, stopped_bound}
-use Rattle.b64.proofs.Chunks.{part_group}
+use Rattle.b64.proofs.Chunks.{rest_len, part_group}
 use Rattle.b64.proofs.decoder.decode_groups.Goals as goal
 
 pub loop-k-init : goal.loop-k-init
@@ -18,7 +16,7 @@ loop-k-init c =
 
 pub put_three-requires : goal.put_three-requires
 put_three-requires c =
-    let many : length (take c.min-count.result c.as_chunks.result.0.now) ≡ c.min-count.result = length-take-le _ _ (omega (arith, c.min-count.ensures)) in
+    let many = length-take-le c.min-count.result c.as_chunks.result.0.now (omega (arith, c.min-count.ensures)) in
     (omega (arith, c.min-count.ensures, c.loop-k.invariant.keeps), omega arith)
 
 pub loop-k-preserved : goal.loop-k-preserved
@@ -26,8 +24,8 @@ loop-k-preserved c =
     let a = c.args in
     let s = a.s.now in
     let l = c.loop-k in
-    let many : length (take c.min-count.result c.as_chunks.result.0.now) ≡ c.min-count.result = length-take-le _ _ (omega (arith, c.min-count.ensures)) in
-    let size : length (take (length s - a.at) (drop a.at s)) ≡ length s - a.at = ap length (tail_part s a.at) ∙ length-drop a.at s in
+    let many = length-take-le c.min-count.result c.as_chunks.result.0.now (omega (arith, c.min-count.ensures)) in
+    let size = rest_len s a.at in
     let e = part_group s a.at _ _ l.k _ _ c.as_chunks.ensures.front (omega (arith, c.as_chunks.ensures.front_len, c.min-count.ensures)) (omega arith) c.four-n.ensures in
     let ei : a.at + l.k * 4 + 4 ≡ a.at + (l.k + 1) * 4 = omega arith in
     let eo : a.from + l.k * 3 + 3 ≡ a.from + (l.k + 1) * 3 = omega arith in
@@ -40,7 +38,7 @@ returns-then-n-gt16777215 c =
     let a = c.args in
     let s = a.s.now in
     let l = c.loop-k in
-    let many : length (take c.min-count.result c.as_chunks.result.0.now) ≡ c.min-count.result = length-take-le _ _ (omega (arith, c.min-count.ensures)) in
+    let many = length-take-le c.min-count.result c.as_chunks.result.0.now (omega (arith, c.min-count.ensures)) in
     let e = part_group s a.at _ _ l.k _ _ c.as_chunks.ensures.front (omega (arith, c.as_chunks.ensures.front_len, c.min-count.ensures)) (omega arith) c.four-n.ensures in
     (l.invariant, stopped_other s l.out (a.at + l.k * 4) (a.from + l.k * 3) _ e c.if-n-gt16777215.true)
 
@@ -49,8 +47,8 @@ returns c =
     let a = c.args in
     let s = a.s.now in
     let l = c.loop-k in
-    let many : length (take c.min-count.result c.as_chunks.result.0.now) ≡ c.min-count.result = length-take-le _ _ (omega (arith, c.min-count.ensures)) in
-    let size : length (take (length s - a.at) (drop a.at s)) ≡ length s - a.at = ap length (tail_part s a.at) ∙ length-drop a.at s in
+    let many = length-take-le c.min-count.result c.as_chunks.result.0.now (omega (arith, c.min-count.ensures)) in
+    let size = rest_len s a.at in
     let k : l.k ≡ c.min-count.result = omega arith in
     let r = rw k at l.invariant in (
       r,

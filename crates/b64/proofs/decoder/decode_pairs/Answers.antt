@@ -1,11 +1,11 @@
--- `b64::decoder::decode_whole` meets its contract. Assumes nothing.
+-- `b64::decoder::decode_pairs` meets its contract. Assumes nothing.
 use Prim.Native.Nat.{◌+◌, ◌*◌, ◌/◌, ◌≤◌}
 use mathlib.Core.Path.{◌≡◌}
 use native.Mathlib.Omega.{arith}
 use lib.ListN.{length}
 use Rattle.b64.proofs.RunLaws.{reached_start, group_in, group_room, group_reached, pair_reached}
 use Rattle.b64.proofs.Chunks.{first_group, second_group, last_group}
-use Rattle.b64.proofs.decoder.decode_whole.Goals as goal
+use Rattle.b64.proofs.decoder.decode_pairs.Goals as goal
 
 pub loop-k-init : goal.loop-k-init
 loop-k-init c = reached_start c.args.text.now 0 c.args.out.now 0 (omega arith) (omega arith)
