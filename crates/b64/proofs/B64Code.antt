@@ -1,6 +1,6 @@
 -- What the code of B64 needs: the end of a text, the alphabet by tests, what the stores of the encoder leave, and four sextets as one number.
 -- Assumes nothing.
-use Prim.Native.Nat.{ℕ, suc, ◌+◌, ◌-◌, ◌*◌, ◌%◌, ◌<◌, ◌≤◌}
+use Prim.Native.Nat.{ℕ, suc, ◌+◌, ◌-◌, ◌*◌, ◌/◌, ◌%◌, ◌<◌, ◌≤◌}
 use mathlib.Core.Path.{◌≡◌, refl, sym, ap, ◌∙◌}
 use mathlib.Core.Bool.{Bool, true, false, not, cond, ◌&&◌, ◌||◌}
 use mathlib.Core.List.{List, [], ◌∷◌, ◌++◌}
@@ -9,6 +9,7 @@ use lib.Dec.{eqb}
 use lib.ListN.{length, get_or, take, drop, set, replicate}
 use lib.Seq.{sets-eq}
 use borrow.Author.Tests.{ltb-true, le-leb, lt-leb}
+use Rattle.std.proofs.lemmas.List.{get_or-drop}
 use Rattle.text.specs.Text.{within, all}
 use Rattle.text.proofs.Lists.{all_at}
 use Rattle.text.proofs.Table.{at}
@@ -43,6 +44,12 @@ module _ (t : List ℕ) where
   unfolding low_bits_zero
   ends_3 e = rw (← last_at t, e)
 
+  -- the last character, in the rest after the whole groups
+  pub rest_last : (j : ℕ) → length t % 4 ≡ j + 1 → get_or (drop (length t / 4 * 4) t) j 0 ≡ get_or t (length t - 1) 0
+  rest_last j e =
+      let k : length t / 4 * 4 + j ≡ length t - 1 = omega arith in
+      get_or-drop (length t / 4 * 4) t j 0 ∙ ap (λ (i : ℕ). get_or t i 0) k
+
   pub canonical_in : true ≡ all in_alphabet t → canonical t ≡ (not (eqb (length t % 4) 1) && low_bits_zero t)
   unfolding canonical
   canonical_in e = rw (← e)
@@ -75,7 +82,8 @@ sextet_at t e i h = ltb-true _ _ (all_at in_alphabet t (canonical_alphabet t e) 
 -- ---- the encoder, group by group
 
 pub record EncodeGroup (b : List ℕ) : Type 0 where
-  pub chars : take 4 (encode b) ≡ char0 (get_or b 0 0) ∷ char1 (get_or b 0 0) (get_or b 1 0) ∷ char2 (get_or b 1 0) (get_or b 2 0) ∷ char3 (get_or b 2 0) ∷ []
+  pub size : length (take 4 (encode b)) ≡ 4
+  pub taken : encode (take 3 b) ≡ take 4 (encode b)
   pub rest : encode b ≡ take 4 (encode b) ++ encode (drop 3 b)
 
 pub encode_group : (b : List ℕ) → 3 ≤ length b → EncodeGroup b
@@ -83,7 +91,7 @@ unfolding encode
 encode_group [] h = absurd (omega arith)
 encode_group (x ∷ []) h = absurd (omega arith)
 encode_group (x ∷ y ∷ []) h = absurd (omega arith)
-encode_group (x ∷ y ∷ z ∷ b) h = record { chars = refl; rest = refl }
+encode_group (x ∷ y ∷ z ∷ b) h = record { size = refl; taken = refl; rest = refl }
 
 pub encode-none : (b : List ℕ) → length b ≡ 0 → encode b ≡ []
 unfolding encode
@@ -103,6 +111,15 @@ encode-two (x ∷ []) h = absurd (omega arith)
 encode-two (x ∷ y ∷ []) h = refl
 encode-two (x ∷ y ∷ z ∷ b) h = absurd (omega arith)
 
+encode-three : (b : List ℕ) → length b ≡ 3
+    → encode b ≡ char0 (get_or b 0 0) ∷ char1 (get_or b 0 0) (get_or b 1 0) ∷ char2 (get_or b 1 0) (get_or b 2 0) ∷ char3 (get_or b 2 0) ∷ []
+unfolding encode
+encode-three [] h = absurd (omega arith)
+encode-three (x ∷ []) h = absurd (omega arith)
+encode-three (x ∷ y ∷ []) h = absurd (omega arith)
+encode-three (x ∷ y ∷ z ∷ []) h = refl
+encode-three (x ∷ y ∷ z ∷ w ∷ b) h = absurd (omega arith)
+
 -- what the stores leave, where p, q, r, s are the letters that the code has looked up
 module _ (b d : List ℕ) (p q r s : ℕ) (ep : p ≡ char0 (get_or b 0 0)) where
   pub one_stored : q ≡ letter (get_or b 0 0 % 4 * 16) → length b ≡ 1 → length (encode b) ≤ length d
@@ -121,9 +138,9 @@ module _ (b d : List ℕ) (p q r s : ℕ) (ep : p ≡ char0 (get_or b 0 0)) wher
       let k : 3 ≤ length d = omega (arith, ap length w) in
       rw (ep, eq, er, z, sets-eq (_ ∷ _ ∷ _ ∷ []) d 0 k, w)
 
-  pub group_stored : q ≡ char1 (get_or b 0 0) (get_or b 1 0) → r ≡ char2 (get_or b 1 0) (get_or b 2 0) → s ≡ char3 (get_or b 2 0) → EncodeGroup b → 4 ≤ length d
-      → set (set (set (set d 0 p) 1 q) 2 r) 3 s ≡ take 4 (encode b) ++ drop 4 d
-  group_stored eq er es g h = rw (ep, eq, er, es, sets-eq (_ ∷ _ ∷ _ ∷ _ ∷ []) d 0 h, g.chars)
+  pub group_stored : q ≡ char1 (get_or b 0 0) (get_or b 1 0) → r ≡ char2 (get_or b 1 0) (get_or b 2 0) → s ≡ char3 (get_or b 2 0) → length b ≡ 3 → 4 ≤ length d
+      → set (set (set (set d 0 p) 1 q) 2 r) 3 s ≡ encode b ++ drop 4 d
+  group_stored eq er es n h = rw (ep, eq, er, es, sets-eq (_ ∷ _ ∷ _ ∷ _ ∷ []) d 0 h, encode-three b n)
 
 -- ---- four sextets as one number
 

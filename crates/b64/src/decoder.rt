@@ -1,5 +1,5 @@
 // From B64 characters to bytes, into a lent buffer, by whole groups of four: a text that is judged first, or what stands at a place.
-ghost use Rattle.std.specs.Prelude.{◌≡◌, true, ◌++◌, ◌+◌, ◌≤◌, ◌<◌, length, get_or, drop};
+ghost use Rattle.std.specs.Prelude.{◌≡◌, true, ◌++◌, ◌+◌, ◌*◌, ◌/◌, ◌≤◌, ◌<◌, length, get_or, drop};
 ghost use Rattle.text.specs.Place.{bytes_answered};
 ghost use Rattle.b64.specs.B64.{sextet, Sextets, canonical, decode, decoding};
 ghost use Rattle.b64.specs.Runs.{RunGives};
@@ -10,7 +10,6 @@ use crate::group_bytes::{four, put_group, put_one, put_three, put_two};
 use crate::lengths::decoded_len;
 use crate::sextets::{is_canonical_by, sextet_of};
 use refusals::Refusal;
-use text::order::min;
 use text::place::has_room;
 use text::units::{Bytes, Chars};
 
@@ -23,43 +22,33 @@ pub struct Run {
     pub complete: bool,
 }
 
-// Where whole groups end, in the text and in the bytes.
-#[derive(Clone, Copy)]
-struct Ended {
-    pub next: usize,
-    pub end: usize,
-}
-
 // The sextet at a place; 255 past the end, as for a byte outside the alphabet.
 fn sextet_at(table: &[u8; 256], s: &[u8], i: usize) -> u8
     requires { Sextets table.now }
     ensures { result ≡ sextet (get_or s.now i 0) }
 {
-    if i < s.len() {
-        return sextet_of(table, s[i]);
+    match s.get(i) {
+        Some(c) => sextet_of(table, *c),
+        None => 255,
     }
-    255
 }
 
-// Whole groups: four characters to three bytes, as many as stand at the place and fit. One bound for text and room.
-fn decode_groups(table: &[u8; 256], s: &[u8], at: usize, out: &mut [u8], from: usize) -> Ended
+// Whole groups: four characters to three bytes, as many as stand at the place and fit, and how many they are.
+fn decode_groups(table: &[u8; 256], s: &[u8], at: usize, out: &mut [u8], from: usize) -> usize
     requires at_in_bounds { (at ≤ length s.now) × (from ≤ length out.old) }
     requires sextets { Sextets table.now }
-    ensures { Reached s.now at out.old from out.new result.next result.end × Stopped s.now out.new result.next result.end }
+    ensures { Reached s.now at out.old from out.new (at + result * 4) (from + result * 3) × Stopped s.now out.new (at + result * 4) (from + result * 3) }
 {
-    let last = at + min((s.len() - at) / 4, (out.len() - from) / 3) * 4;
-    let mut i = at;
-    let mut o = from;
-    while i < last {
-        let n = four(table, s, i);
+    let (groups, _) = s[at..].as_chunks::<4>();
+    let count = groups.len().min((out.len() - from) / 3);
+    for (k, group) in groups[..count].iter().enumerate() {
+        let n = four(table, group);
         if 16777215 < n {
-            return Ended { next: i, end: o };
+            return k;
         }
-        put_three(out, o, n);
-        i += 4;
-        o += 3;
+        put_three(out, from + k * 3, n);
     }
-    Ended { next: i, end: o }
+    count
 }
 
 // What stands after the whole groups: the last two or three characters of a canonical text, where they fit; anything else is left.
@@ -68,11 +57,6 @@ fn decode_rest(table: &[u8; 256], s: &[u8], i: usize, out: &mut [u8], o: usize) 
     requires sextets { Sextets table.now }
     ensures { RunGives s.now i out.old o out.new result }
 {
-    let stopped = Run {
-        next: i,
-        end: o,
-        complete: false,
-    };
     let a = sextet_at(table, s, i);
     if 63 < a {
         return Run {
@@ -81,42 +65,32 @@ fn decode_rest(table: &[u8; 256], s: &[u8], i: usize, out: &mut [u8], o: usize) 
             complete: true,
         };
     }
-    let b = sextet_at(table, s, i + 1);
-    if 63 < b {
-        return stopped;
-    }
     let room = out.len() - o;
+    let b = sextet_at(table, s, i + 1);
     let c = sextet_at(table, s, i + 2);
-    if 63 < c {
-        if room < 1 {
-            return stopped;
-        }
-        if b % 16 == 0 {
+    match (b, c) {
+        (0..64, 64..) if 1 <= room && b % 16 == 0 => {
             put_one(out, o, a, b);
-            return Run {
+            Run {
                 next: i + 2,
                 end: o + 1,
                 complete: true,
-            };
+            }
         }
-        return stopped;
+        (0..64, 0..64) if 2 <= room && 63 < sextet_at(table, s, i + 3) && c % 4 == 0 => {
+            put_two(out, o, a, b, c);
+            Run {
+                next: i + 3,
+                end: o + 2,
+                complete: true,
+            }
+        }
+        _ => Run {
+            next: i,
+            end: o,
+            complete: false,
+        },
     }
-    if room < 2 {
-        return stopped;
-    }
-    let d = sextet_at(table, s, i + 3);
-    if d < 64 {
-        return stopped;
-    }
-    if c % 4 == 0 {
-        put_two(out, o, a, b, c);
-        return Run {
-            next: i + 3,
-            end: o + 2,
-            complete: true,
-        };
-    }
-    stopped
 }
 
 // The run at a place, decoded as far as it goes into `out` from a place on: all of it, where it is a canonical text and its bytes fit; else whole
@@ -140,44 +114,38 @@ pub fn decode_run(s: &[u8], at: usize, out: &mut [u8], from: usize) -> Run
         };
     }
     let table = &SEXTETS;
-    let g = decode_groups(table, s, at, out, from);
-    decode_rest(table, s, g.next, out, g.end)
+    let k = decode_groups(table, s, at, out, from);
+    decode_rest(table, s, at + k * 4, out, from + k * 3)
 }
 
-// The groups of a canonical text, two a turn, from the start of a buffer that has room for its bytes; fewer than eight characters are left.
-fn decode_pairs(table: &[u8; 256], text: &[u8], out: &mut [u8]) -> Ended
+// The groups of a canonical text, from the start of a buffer that has room for its bytes; two a turn, since one a turn takes 7 % more instructions.
+fn decode_pairs(table: &[u8; 256], text: &[u8], out: &mut [u8])
     requires text_value { canonical text.now ≡ true }
     requires text_in_bounds { length (decode text.now) ≤ length out.old }
     requires sextets { Sextets table.now }
-    ensures { Reached text.now 0 out.old 0 out.new result.next result.end × (length text.now < result.next + 8) }
+    ensures { Reached text.now 0 out.old 0 out.new (length text.now / 4 * 4) (length text.now / 4 * 3) }
 {
-    let mut i = 0;
-    let mut o = 0;
-    while 8 <= text.len() - i {
-        put_group(table, text, i, out, o);
-        put_group(table, text, i + 4, out, o + 3);
-        i += 8;
-        o += 6;
+    let (groups, _) = text.as_chunks::<4>();
+    let (pairs, rest) = groups.as_chunks::<2>();
+    for (k, [first, second]) in pairs.iter().enumerate() {
+        put_group(table, first, out, k * 6);
+        put_group(table, second, out, k * 6 + 3);
     }
-    Ended { next: i, end: o }
+    if let [group, ..] = rest {
+        put_group(table, group, out, pairs.len() * 6);
+    }
 }
 
-// A canonical text, from the start of a buffer that has room for its bytes: pairs of groups, a group that is left, and the rest.
+// A canonical text, from the start of a buffer that has room for its bytes: its groups and the rest.
 fn decode_all(table: &[u8; 256], text: &[u8], out: &mut [u8])
     requires text_value { canonical text.now ≡ true }
     requires text_in_bounds { length (decode text.now) ≤ length out.old }
     requires sextets { Sextets table.now }
     ensures { out.new ≡ decode text.now ++ drop (length (decode text.now)) out.old }
 {
-    let g = decode_pairs(table, text, out);
-    let i = g.next;
-    let o = g.end;
-    if text.len() - i < 4 {
-        decode_rest(table, text, i, out, o);
-        return;
-    }
-    put_group(table, text, i, out, o);
-    decode_rest(table, text, i + 4, out, o + 3);
+    decode_pairs(table, text, out);
+    let count = text.len() / 4;
+    decode_rest(table, text, count * 4, out, count * 3);
 }
 
 // The bytes of a text into `buf` from `at` on. 12: the text is not canonical; then 17: they don't fit.

@@ -18,10 +18,6 @@ pub fn encoded_len(n: Bytes) -> Chars
 {
     let k = n.0;
     let groups = k / 3;
-    let rest = (k % 3 * 4 + 2) / 3;
-    if groups <= (0xffff_ffff_ffff_ffff - rest) / 4 {
-        Chars(groups * 4 + rest)
-    } else {
-        Chars(0xffff_ffff_ffff_ffff)
-    }
+    let rest = (k % 3 * 4).div_ceil(3);
+    Chars(groups.saturating_mul(4).saturating_add(rest))
 }

@@ -9,20 +9,14 @@ pub fn sextet_of(table: &[u8; 256], c: u8) -> u8
     requires { Sextets table.now }
     ensures { result ≡ sextet c }
 {
-    table[c as usize]
-}
-
-pub fn wide(x: u8) -> u32
-    ensures { result ≡ x }
-{
-    x as u32
+    table[usize::from(c)]
 }
 
 // Four numbers of six bits as one of 24.
 pub fn bits(a: u8, b: u8, c: u8, d: u8) -> u32
     ensures { result ≡ bits_of a b c d }
 {
-    (wide(a) * 64 + wide(b)) * 4096 + (wide(c) * 64 + wide(d))
+    (u32::from(a) * 64 + u32::from(b)) * 4096 + (u32::from(c) * 64 + u32::from(d))
 }
 
 fn in_range(low: u8, high: u8, c: u8) -> bool
@@ -43,11 +37,9 @@ fn in_alphabet(c: u8) -> bool
 fn all_in_alphabet(text: &[u8]) -> bool
     ensures { result ≡ all in_alphabet text.now }
 {
-    let mut i = 0;
     let mut good = true;
-    while i < text.len() {
-        good = good & in_alphabet(text[i]);
-        i += 1;
+    for c in text {
+        good &= in_alphabet(*c);
     }
     good
 }
@@ -57,18 +49,12 @@ fn has_canonical_end(table: &[u8; 256], text: &[u8]) -> bool
     requires { Sextets table.now }
     ensures { result ≡ (not (eqb (length text.now % 4) 1) && low_bits_zero text.now) }
 {
-    let rest = text.len() % 4;
-    if rest == 0 {
-        return true;
-    }
-    if rest == 1 {
-        return false;
-    }
-    let last = sextet_of(table, text[text.len() - 1]);
-    if rest == 2 {
-        last % 16 == 0
-    } else {
-        last % 4 == 0
+    let (_, rest) = text.as_chunks::<4>();
+    match rest {
+        [] => true,
+        [_] => false,
+        [_, b] => sextet_of(table, *b) % 16 == 0,
+        [_, _, c, ..] => sextet_of(table, *c) % 4 == 0,
     }
 }
 
@@ -77,8 +63,5 @@ pub fn is_canonical_by(table: &[u8; 256], text: &[u8]) -> bool
     requires { Sextets table.now }
     ensures { result ≡ canonical text.now }
 {
-    if all_in_alphabet(text) {
-        return has_canonical_end(table, text);
-    }
-    false
+    all_in_alphabet(text) && has_canonical_end(table, text)
 }
