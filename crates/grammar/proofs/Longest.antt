@@ -17,8 +17,9 @@ use Rattle.text.proofs.Joining.{total, join-length, total-none}
 use Rattle.b64.specs.B64.{canonical}
 use Rattle.decimal.specs.Decimal.{is_decimal, digits}
 use Rattle.decimal.specs.Numerals.{numeral, limited_reading, limited_number}
-use Rattle.decimal.specs.declared.reader.Limited.{Limited}
-use Rattle.decimal.specs.declared.reader.Limited.TheVariants.{Malformed, Outside, Value}
+use Rattle.decimal.specs.declared.error.DecimalError.{DecimalError}
+use Rattle.decimal.specs.declared.error.DecimalError.TheVariants.{Malformed, Outside}
+use Rattle.std.specs.Prelude.{Result, Ok, Err}
 use Rattle.decimal.proofs.DecimalLaws.{length_digits}
 use Rattle.decimal.proofs.NumeralLaws.{digits_limited}
 use Rattle.grammar.specs.Bytes.{dollar, comma, equals, is_text}
@@ -62,10 +63,10 @@ unfolding total
 add-value n none l h = omega arith
 add-value n (some t) l h = omega arith
 
-version_digits : (s : List ℕ) (r : Limited) → limited_reading 0 4294967295 s ≡ r → eqb (limited_number r) 0 ≡ true → length s ≤ 10
-version_digits s Malformed e z = absurd (false≢true z)
-version_digits s Outside e z = absurd (false≢true z)
-version_digits s (Value n) e z =
+version_digits : (s : List ℕ) (r : Result ℕ DecimalError) → limited_reading 0 4294967295 s ≡ r → eqb (limited_number r) 0 ≡ true → length s ≤ 10
+version_digits s (Err Malformed) e z = absurd (false≢true z)
+version_digits s (Err Outside) e z = absurd (false≢true z)
+version_digits s (Ok n) e z =
     let p = digits_limited 0 4294967295 s n e in
     let h : length (digits n) ≤ 10 = length_digits 9 n (omega (arith, p.2)) in
     omega (arith, ap length p.0)

@@ -105,7 +105,7 @@ module _ (s : List ℕ) (h : begins_with_dollar s ≡ true) (w : Piece) where
 
 -- ---- the parts
 
-no_span : (w : Piece) → span_of no_places w ≡ span 0 0
+pub no_span : (w : Piece) → span_of no_places w ≡ span 0 0
 no_span Id = refl
 no_span Version = refl
 no_span Params = refl

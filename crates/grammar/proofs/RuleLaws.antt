@@ -8,7 +8,8 @@ use native.Mathlib.Omega.{arith}
 use lib.ListN.{length, drop}
 use Rattle.decimal.specs.Decimal.{is_decimal}
 use Rattle.decimal.specs.Numerals.{numeral, limited_reading}
-use Rattle.decimal.specs.declared.reader.Limited.TheVariants.{Malformed, Value}
+use Rattle.decimal.specs.declared.error.DecimalError.TheVariants.{Malformed}
+use Rattle.std.specs.Prelude.{Ok, Err}
 use Rattle.decimal.proofs.NumeralLaws.{digits_limited}
 use Rattle.grammar.specs.Limits.{largest_version}
 use Rattle.grammar.specs.Pieces.{pieces}
@@ -22,14 +23,14 @@ use Rattle.grammar.specs.declared.places.Span.{Span}
 use Rattle.grammar.specs.declared.places.Places.{Places}
 use Rattle.grammar.proofs.Reading.{optional_present}
 
-pub version_none : (s : List ℕ) → length s < 2 → version_reading s ≡ Malformed
+pub version_none : (s : List ℕ) → length s < 2 → version_reading s ≡ Err Malformed
 unfolding version_reading limited_reading numeral is_decimal
 version_none [] h = refl
 version_none (c ∷ []) h = refl
 version_none (c ∷ d ∷ s) h = absurd (omega arith)
 
 -- a version that is read is in range
-pub version_most : (s : List ℕ) (n : ℕ) → version_reading s ≡ Value n → n ≤ largest_version
+pub version_most : (s : List ℕ) (n : ℕ) → version_reading s ≡ Ok n → n ≤ largest_version
 unfolding version_reading
 version_most s n e = (digits_limited 0 largest_version (drop 2 s) n e).2
 

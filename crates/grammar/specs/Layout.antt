@@ -1,8 +1,10 @@
 -- 'The grammar reader gives the places and lengths of the pieces (0 and 0 for an absent one) and the number of items': derived from the texts of
 -- the pieces.
 -- Assumes nothing.
-use Rattle.std.specs.Prelude.{ℕ, ◌+◌, cond, List, eqb, length}
+use Rattle.std.specs.Prelude.{ℕ, Result, Ok, Err, ◌+◌, cond, List, eqb, length}
 use Rattle.std.proofs.Math.Option.{none, some}
+use Rattle.refusals.specs.Numbers.{number_of}
+use Rattle.refusals.specs.declared.Refusal.{Refusal}
 use Rattle.text.specs.declared.units.Chars.{Chars}
 use Rattle.grammar.specs.Pieces.{OptionalText, Pieces, pieces}
 use Rattle.grammar.specs.Items.{items_of}
@@ -53,12 +55,23 @@ span_of w Output = w.output
 abbrev pub no_places : Places
 no_places = record { id = span 0 0; version = span 0 0; params = span 0 0; salt = span 0 0; output = span 0 0 }
 
-abbrev pub refused_layout : ℕ → Layout
+-- what the reader hands back; on refusal every place, length and count is 0
+pub record LayoutAnswer : Type 0 where
+  pub number : ℕ
+  pub places : Places
+  pub items : ℕ
+
+abbrev pub refused_layout : ℕ → LayoutAnswer
 refused_layout n = record { number = n; places = no_places; items = 0 }
 
-abbrev pub accepted_layout : Pieces → Layout
+abbrev pub accepted_layout : Pieces → LayoutAnswer
 accepted_layout p = record { number = 0; places = places_of p; items = length (items_of p.params) }
 
 -- the grammar reader's answer
-unfoldable pub layout : List ℕ → Layout
+unfoldable pub layout : List ℕ → LayoutAnswer
 layout s = cond (eqb (grammar_number s) 0) (accepted_layout (pieces s)) (refused_layout (grammar_number s))
+
+-- the reader's result as that answer
+abbrev pub layout_answer : Result Layout Refusal → LayoutAnswer
+layout_answer (Ok l) = record { number = 0; places = l.places; items = l.items }
+layout_answer (Err r) = refused_layout (number_of r)

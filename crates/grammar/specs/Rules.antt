@@ -1,11 +1,11 @@
 -- 'Rows 1 to 7 are the grammar's': the rule of each piece, and these rows.
 -- Assumes nothing.
-use Rattle.std.specs.Prelude.{ℕ, Bool, false, not, ◌&&◌, ◌||◌, List, [], ◌∷◌, leb, eqb, length, drop}
+use Rattle.std.specs.Prelude.{ℕ, Result, Bool, false, not, ◌&&◌, ◌||◌, List, [], ◌∷◌, leb, eqb, length, drop}
 use Rattle.text.specs.Text.{text, within, all, same, empty, violates}
 use Rattle.text.specs.Rows.{Row, row, first_number}
 use Rattle.b64.specs.B64.{canonical}
 use Rattle.decimal.specs.Numerals.{limited_reading, limited_number}
-use Rattle.decimal.specs.declared.reader.Limited.{Limited}
+use Rattle.decimal.specs.declared.error.DecimalError.{DecimalError}
 use Rattle.grammar.specs.Bytes.{dollar, is_name_byte, is_value_byte, is_text}
 use Rattle.grammar.specs.Limits.{longest_name, longest_value, longest_output, most_items, largest_version, longest_string}
 use Rattle.grammar.specs.Pieces.{Pieces, pieces, piece_in}
@@ -22,7 +22,7 @@ abbrev pub is_value : List ℕ → Bool
 is_value s = is_text is_value_byte longest_value s
 
 -- what stands after a version piece's `v=`, read as a number. Free answer: the first two bytes of any other text are not looked at
-unfoldable pub version_reading : List ℕ → Limited
+unfoldable pub version_reading : List ℕ → Result ℕ DecimalError
 version_reading s = limited_reading 0 largest_version (drop 2 s)
 
 -- after `v=` a shortest decimal, 0 to 4,294,967,295. Asked only of a piece that begins with `v=`

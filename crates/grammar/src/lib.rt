@@ -7,7 +7,6 @@ pub mod item_places;
 mod items;
 pub mod limits;
 pub mod names;
-pub mod numbers;
 pub mod parts;
 pub mod pieces;
 pub mod places;

@@ -11,7 +11,10 @@ use text::scan::nth_part;
 pub fn piece(s: &[u8], which: Piece) -> &[u8]
     ensures { result.now ≡ piece_text s.now which }
 {
-    part(s, span_of(read(s).places, which))
+    match read(s) {
+        Ok(layout) => part(s, span_of(layout.places, which)),
+        Err(_) => &[],
+    }
 }
 
 // The name of the item at an index from 0; empty past the last, or where the string is refused.

@@ -1,5 +1,6 @@
 // The rule of each piece, and rows 1 to 7.
 ghost use Rattle.std.specs.Prelude.{◌≡◌, true, length};
+ghost use Rattle.refusals.specs.Numbers.{number};
 ghost use Rattle.text.specs.Rows.{first_number};
 ghost use Rattle.grammar.specs.Pieces.{pieces};
 ghost use Rattle.grammar.specs.Items.{items_of};
@@ -10,13 +11,12 @@ ghost use Rattle.grammar.specs.SortingSteps.{sorted_of};
 use crate::items::{is_params, item_count};
 use crate::limits::{LONGEST_OUTPUT, LONGEST_STRING};
 use crate::names::is_name;
-use crate::numbers::{BAD_ID, BAD_OUTPUT, BAD_PARAMETERS, BAD_SALT, BAD_VERSION, TOO_MANY_PIECES};
 use crate::places::{Piece, Places, part, span_of};
 use crate::sorting::Sorted;
 use crate::values::is_value;
 use crate::version::version_number;
 use b64::canonical::is_canonical;
-use decimal::reader::Limited;
+use refusals::Refusal;
 
 // Row 1.
 #[tactic(auto, unfolding(crate::specs::Rules::bad_string))]
@@ -30,7 +30,7 @@ pub fn bad_string(s: &[u8]) -> bool
 fn is_version(text: &[u8]) -> bool
     ensures { result ≡ is_version text.now }
 {
-    matches!(version_number(text), Limited::Value(_))
+    version_number(text).is_ok()
 }
 
 #[tactic(auto, unfolding(crate::specs::Rules::is_output))]
@@ -64,27 +64,29 @@ fn breaks(s: &[u8], places: Places, which: Piece) -> bool
 }
 
 // Rows 2 to 7: the first that applies.
-pub fn number_of(s: &[u8], sorted: Sorted) -> u8
+pub fn judge(s: &[u8], sorted: Sorted) -> Result<(), Refusal>
     requires { (begins_with_dollar s.now ≡ true) × (sorted ≡ sorted_of (pieces s.now)) }
-    ensures { result ≡ first_number (piece_rows (pieces s.now)) }
+    ensures { number result ≡ first_number (piece_rows (pieces s.now)) }
 {
-    let places = sorted.places;
-    if breaks(s, places, Piece::Id) {
-        return BAD_ID;
+    if breaks(s, sorted.places, Piece::Id) {
+        return Err(Refusal::BadId);
     }
-    if breaks(s, places, Piece::Version) {
-        return BAD_VERSION;
+    if breaks(s, sorted.places, Piece::Version) {
+        return Err(Refusal::BadVersion);
     }
-    if breaks(s, places, Piece::Params) {
-        return BAD_PARAMETERS;
+    if breaks(s, sorted.places, Piece::Params) {
+        return Err(Refusal::BadParameters);
     }
-    if breaks(s, places, Piece::Salt) {
-        return BAD_SALT;
+    if breaks(s, sorted.places, Piece::Salt) {
+        return Err(Refusal::BadSalt);
     }
-    if breaks(s, places, Piece::Output) {
-        return BAD_OUTPUT;
+    if breaks(s, sorted.places, Piece::Output) {
+        return Err(Refusal::BadOutput);
     }
-    if sorted.more { TOO_MANY_PIECES } else { 0 }
+    if sorted.more {
+        return Err(Refusal::TooManyPieces);
+    }
+    Ok(())
 }
 
 // The number of items; 0 where there is no parameter piece.
