@@ -36,9 +36,12 @@ pub fn item_count(params: &[u8]) -> usize
     params.iter().filter(|&&c| c == b',').count() + 1
 }
 
-// 1 to 16 items, each by its rule.
+// 1 to 16 items, each by its rule: one walk, which ends at the first fault.
 pub fn is_params(params: &[u8]) -> bool
     ensures { result ≡ is_params params.now }
 {
-    item_count(params) <= MOST_ITEMS && params.split(|&c| c == b',').all(is_item)
+    params
+        .split(|&c| c == b',')
+        .enumerate()
+        .all(|(n, item)| n < MOST_ITEMS && is_item(item))
 }
