@@ -3,8 +3,9 @@
 use Prim.Native.Nat.{ℕ, suc, ◌+◌, ◌-◌, ◌≤◌, ◌<◌}
 use mathlib.Core.Bool.{Bool, true, false, cond}
 use mathlib.Core.List.{List, [], ◌∷◌}
-use mathlib.Core.Path.{◌≡◌, sym, ap, ◌∙◌}
+use mathlib.Core.Path.{◌≡◌, refl, sym, ap, ◌∙◌}
 use native.Mathlib.Omega.{arith}
+use mir.Val.{bool_byte}
 use lib.Dec.{eqb}
 use lib.ListN.{length, take, drop}
 use Rattle.text.specs.Text.{line_feed, next_at}
@@ -19,6 +20,13 @@ accepted-first n ns = go (eqb n 0)
     go : (b : Bool) → cond b (suc (accepted ns)) (accepted ns) ≡ cond b 1 0 + accepted ns
     go true = omega arith
     go false = omega arith
+
+pub accepted_bool : (n : ℕ) → bool_byte (eqb n 0) ≡ accepted (n ∷ [])
+accepted_bool n = go (eqb n 0)
+  where
+    go : (b : Bool) → bool_byte b ≡ cond b 1 0
+    go true = refl
+    go false = refl
 
 pub at_most_one : (n : ℕ) → accepted (n ∷ []) ≤ 1
 at_most_one n = go (eqb n 0)

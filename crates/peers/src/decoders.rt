@@ -8,7 +8,7 @@ pub extern "C" fn peer_decode(text: &[u8], buf: &mut [u8]) -> u64
     ensures { (result ≡ (decoding text.now buf.old 0).number) × (buf.new ≡ (decoding text.now buf.old 0).buffer) }
 {
     let d = b64::decoder::decode(text, buf, 0);
-    d.number as u64
+    u64::from(d.number)
 }
 
 // The same by the plain decoder.
@@ -17,5 +17,5 @@ pub extern "C" fn peer_decode_plain(text: &[u8], buf: &mut [u8]) -> u64
     ensures { (result ≡ (decoding text.now buf.old 0).number) × (buf.new ≡ (decoding text.now buf.old 0).buffer) }
 {
     let d = crate::plain::decode(text, buf, 0);
-    d.number as u64
+    u64::from(d.number)
 }

@@ -1,6 +1,5 @@
 // The listing's judging of a whole text, in one loop: each line is found and judged as the listing does it, and no row is written.
-ghost use Rattle.std.specs.Prelude.{◌+◌, ◌<◌, ◌≡◌, [], ◌∷◌};
-ghost use Rattle.text.specs.Units.{largest_usize};
+ghost use Rattle.std.specs.Prelude.{◌≡◌};
 ghost use Rattle.accounts.specs.Lines.{lines};
 ghost use Rattle.accounts.specs.Batches.{numbers_of};
 ghost use Rattle.peers.specs.Judging.{accepted};
@@ -8,29 +7,18 @@ ghost use Rattle.peers.specs.Judging.{accepted};
 use accounts::line::judge;
 use text::scan::next_at;
 
-// One more where a line is accepted.
-fn count_in(count: usize, number: u8) -> usize
-    requires { count < largest_usize }
-    ensures { result ≡ count + accepted (number ∷ []) }
-{
-    if number == 0 {
-        return count + 1;
-    }
-    count
-}
-
 // How many lines of account text are accepted.
 #[unsafe(no_mangle)]
 pub extern "C" fn peer_judge_all(text: &[u8]) -> u64
     ensures { result ≡ accepted (numbers_of (lines text.now)) }
 {
-    let mut place: usize = 0;
-    let mut count: usize = 0;
+    let mut place = 0;
+    let mut count = 0;
     while place < text.len() {
         let end = next_at(text, place, b'\n');
         let answer = judge(&text[place..end]);
-        count = count_in(count, answer.number);
+        count += u64::from(answer.number == 0);
         place = end + 1;
     }
-    count as u64
+    count
 }

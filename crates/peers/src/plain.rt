@@ -15,23 +15,19 @@ fn sextet_of(table: &[u8; 256], c: u8) -> u8
     requires { Sextets table.now }
     ensures { result ≡ sextet c }
 {
-    table[c as usize]
+    table[usize::from(c)]
 }
 
 // Whether a text may end so: what its length leaves modulo 4, and its last sextet.
 fn may_end(rest: usize, last: u8) -> bool
     ensures { result ≡ (not (eqb rest 1) && eqb (last % low_bits_modulus rest) 0) }
 {
-    if rest == 1 {
-        return false;
+    match rest {
+        1 => false,
+        2 => last % 16 == 0,
+        3 => last % 4 == 0,
+        _ => true,
     }
-    if rest == 2 {
-        return last % 16 == 0;
-    }
-    if rest == 3 {
-        return last % 4 == 0;
-    }
-    true
 }
 
 // Whether a text is canonical, character by character.
@@ -39,14 +35,12 @@ fn is_canonical_by(table: &[u8; 256], text: &[u8]) -> bool
     requires { Sextets table.now }
     ensures { result ≡ canonical text.now }
 {
-    let mut i = 0;
-    let mut last: u8 = 0;
-    while i < text.len() {
-        last = sextet_of(table, text[i]);
+    let mut last = 0;
+    for c in text {
+        last = sextet_of(table, *c);
         if 63 < last {
             return false;
         }
-        i += 1;
     }
     may_end(text.len() % 4, last)
 }
@@ -56,13 +50,11 @@ fn completed(place: usize, prior: u8, own: u8) -> u8
     requires { (prior < 64) × (own < 64) }
     ensures { result ≡ completed_byte place prior own }
 {
-    if place == 1 {
-        return prior * 4 + own / 16;
+    match place {
+        1 => prior * 4 + own / 16,
+        2 => prior % 16 * 16 + own / 4,
+        _ => prior % 4 * 64 + own,
     }
-    if place == 2 {
-        return prior % 16 * 16 + own / 4;
-    }
-    prior % 4 * 64 + own
 }
 
 // Stores what a character completes at `o`, and gives the place after it. The first character of a group completes nothing.
@@ -85,14 +77,12 @@ fn decode_all(table: &[u8; 256], text: &[u8], out: &mut [u8])
     requires sextets { Sextets table.now }
     ensures { out.new ≡ decode text.now ++ drop (length (decode text.now)) out.old }
 {
-    let mut i = 0;
     let mut o = 0;
-    let mut prior: u8 = 0;
-    while i < text.len() {
-        let own = sextet_of(table, text[i]);
+    let mut prior = 0;
+    for (i, c) in text.iter().enumerate() {
+        let own = sextet_of(table, *c);
         o = store_next(i % 4, prior, own, out, o);
         prior = own;
-        i += 1;
     }
 }
 

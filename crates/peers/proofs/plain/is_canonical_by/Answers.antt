@@ -12,14 +12,14 @@ use Rattle.peers.proofs.plain.is_canonical_by.Goals as goal
 pub returns-then-last-gt63 : goal.returns-then-last-gt63
 returns-then-last-gt63 c =
     let t = c.args.text.now in
-    let i = c.loop-i.i in
+    let i = c.loop-c.c-index in
     sym
     (canonical_out t
-    (sym (c.loop-i.invariant.0 ∙ all-false in_alphabet t i (omega arith) (le-ltb (sextet (get_or t i 0)) 64 (omega (arith, c.sextet_of-last.ensures))))))
+    (sym (c.loop-c.invariant.0 ∙ all-false in_alphabet t i (omega arith) (le-ltb (sextet (get_or t i 0)) 64 (omega (arith, c.sextet_of-last.ensures))))))
 
 pub returns : goal.returns
 returns c =
     let t = c.args.text.now in
-    let l : c.loop-i.last ≡ last_sextet 0 t = rw (drop_of_length-le t c.loop-i-test.false) at c.loop-i.invariant.1 in
+    let l : c.loop-c.last ≡ last_sextet 0 t = rw (drop_of_length-le t c.loop-c-test.false) at c.loop-c.invariant.1 in
     c.may_end.ensures
-    ∙ rw l (canonical_end t (sym (c.loop-i.invariant.0 ∙ all_past in_alphabet t c.loop-i.i c.loop-i-test.false)))
+    ∙ rw l (canonical_end t (sym (c.loop-c.invariant.0 ∙ all_past in_alphabet t c.loop-c.c-index c.loop-c-test.false)))
