@@ -9,6 +9,7 @@ use Rattle.text.specs.Rows.{Row, row, first_number}
 use Rattle.text.proofs.Rows.{rows_stop, rows_next}
 use Rattle.refusals.specs.Numbers.{number_of}
 use Rattle.refusals.specs.declared.Refusal.{Refusal}
+use Rattle.refusals.specs.declared.Refusal.TheVariants.{WrongSalt, WrongOutput}
 use Rattle.grammar.specs.Pieces.{OptionalText}
 use Rattle.table.specs.Limits.{Profile, version_allowed}
 use Rattle.table.specs.declared.version.Version.{Version}
@@ -31,9 +32,16 @@ module _ {A : Type 0} (r : Profile) (v : Version) (vs : List OptionalText) (unma
   past_numbers : first_number (rows_for r v vs unmatched salt output) ≡ first_number (bytes_and_default_rows r vs ++ last_rows)
   past_numbers = simp (k, ← a, u, ← m) (rows_next (number_rows r vs) (bytes_and_default_rows r vs ++ last_rows) 0 refl n refl)
 
+  past_defaults : 0 ≡ first_number (bytes_and_default_rows r vs) → first_number (rows_for r v vs unmatched salt output) ≡ first_number last_rows
+  past_defaults z = past_numbers ∙ rows_next (bytes_and_default_rows r vs) last_rows 0 refl z refl
+
   pub at_defaults : (e : Refusal) → number_of e ≡ first_number (bytes_and_default_rows r vs) → Answers (rows_for r v vs unmatched salt output) value (Err e)
   at_defaults e h = record { number_is = sym (past_numbers ∙ rows_stop (bytes_and_default_rows r vs) last_rows (number_of e) h (never_zero e)); value_is = tt }
 
-  pub past_defaults : (e : Refusal) → 0 ≡ first_number (bytes_and_default_rows r vs) → number_of e ≡ first_number last_rows
-      → Answers (rows_for r v vs unmatched salt output) value (Err e)
-  past_defaults e z h = record { number_is = h ∙ sym (past_numbers ∙ rows_next (bytes_and_default_rows r vs) last_rows 0 refl z refl); value_is = tt }
+  pub at_salt : 0 ≡ first_number (bytes_and_default_rows r vs) → true ≡ violates (is_bytes r.salt) salt
+      → Answers (rows_for r v vs unmatched salt output) value (Err WrongSalt)
+  at_salt z h = record { number_is = sym (past_defaults z ∙ rw (← h)); value_is = tt }
+
+  pub at_output : 0 ≡ first_number (bytes_and_default_rows r vs) → false ≡ violates (is_bytes r.salt) salt → true ≡ violates (is_decoded_size r.output) output
+      → Answers (rows_for r v vs unmatched salt output) value (Err WrongOutput)
+  at_output z h k = record { number_is = sym (past_defaults z ∙ rw (← h, ← k)); value_is = tt }
