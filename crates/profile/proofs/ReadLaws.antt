@@ -142,51 +142,40 @@ unfolding decode
 decode_optional none = refl
 decode_optional (some t) = refl
 
--- ---- what was found at the places of an accepted string's pieces
+-- ---- what is found at the places of an accepted string's pieces
 
--- by the text of the parameter piece, and the profile of the id
-pub record Found (s : List ℕ) (places : Places) (params : List ℕ) (values : Values) (id : ℕ) (version : Version) (r : Profile) : Type 0 where
-  pub id_is : id ≡ id_of edition_two (pieces s).id
-  pub version_is : version ≡ read_version (pieces s).version
-  pub profile_is : r ≡ profile_of edition_two (id_of edition_two (pieces s).id)
-  pub params_are : params ≡ part_at s places.params
-  pub values_are : span_texts params values ≡ named_values parameter_names (items_of (pieces s).params)
-  pub unmatched_is : values.unmatched ≡ not (empty (unmatched_items parameter_names (items_of (pieces s).params)))
-  pub salt_is : span_text s places.salt ≡ (pieces s).salt
-  pub output_is : span_text s places.output ≡ (pieces s).output
+-- by the texts of the id and of the parameters, and the profile r of the id
+module _ (s : List ℕ) (z : grammar_number s ≡ 0) (places : Places) (e : places ≡ places_of (pieces s)) {id_text params : List ℕ} {values : Values}
+    {id : ℕ} {version : Version} {r : Profile} (n : id_text ≡ part_at s places.id) (i : id ≡ id_of edition_two id_text)
+    (v : version ≡ read_version (span_text s places.version)) (q : params ≡ part_at s places.params)
+    (w : ValuesAre params (cond (not (eqb places.params.at 0)) (items params) []) values) (p : r ≡ profile_of edition_two id) where
+  id_is : id ≡ id_of edition_two (pieces s).id
+  id_is = i ∙ ap (id_of edition_two) (n ∙ ap (λ (x : Places). part_at s x.id) e ∙ piece_part s (accepted_starts s z) Id)
 
-pub found : (s : List ℕ) → grammar_number s ≡ 0 → (places : Places) → places ≡ places_of (pieces s) → (id_text params : List ℕ) (values : Values) (id : ℕ)
-    (version : Version) (r : Profile)
-    → id_text ≡ part_at s places.id
-    → id ≡ id_of edition_two id_text
-    → version ≡ read_version (span_text s places.version)
-    → params ≡ part_at s places.params
-    → ValuesAre params (cond (not (eqb places.params.at 0)) (items params) []) values
-    → r ≡ profile_of edition_two id
-    → Found s places params values id version r
-found s z places e id_text params values id version r n i v q w k =
-    record {
-      id_is = id_same;
-      version_is = v ∙ ap (λ (x : Places). read_version (span_text s x.version)) e ∙ ap read_version (optional_piece s z Piece-as-Version);
-      profile_is = k ∙ ap (profile_of edition_two) id_same;
-      params_are = q;
-      values_are = w.found ∙ ap (named_values parameter_names) same_items;
-      unmatched_is = w.unmatched_is ∙ ap (λ (is : List Item). not (empty (unmatched_items parameter_names is))) same_items;
-      salt_is = ap (λ (x : Places). span_text s x.salt) e ∙ optional_piece s z Piece-as-Salt;
-      output_is = ap (λ (x : Places). span_text s x.output) e ∙ optional_piece s z Piece-as-Output;
-    }
-  where
-    id_same : id ≡ id_of edition_two (pieces s).id
-    id_same = i ∙ ap (id_of edition_two) (n ∙ ap (λ (x : Places). part_at s x.id) e ∙ piece_part s (accepted_starts s z) Id)
+  version_is : version ≡ read_version (pieces s).version
+  version_is = v ∙ ap (λ (x : Places). read_version (span_text s x.version)) e ∙ ap read_version (optional_piece s z Piece-as-Version)
 
-    same_items : cond (not (eqb places.params.at 0)) (items params) [] ≡ items_of (pieces s).params
-    same_items =
-        ap (λ (t : List ℕ). cond (not (eqb places.params.at 0)) (items t) []) q
-        ∙ ap (λ (x : Places). cond (not (eqb x.params.at 0)) (items (part_at s x.params)) []) e
-        ∙ items_there s z
+  profile_is : r ≡ profile_of edition_two (id_of edition_two (pieces s).id)
+  profile_is = p ∙ ap (profile_of edition_two) id_is
 
-module _ (s : List ℕ) (z : grammar_number s ≡ 0) (places : Places) (params : List ℕ) (values : Values) (id : ℕ) (version : Version) (r : Profile)
-    (f : Found s places params values id version r) where
+  same_items : cond (not (eqb places.params.at 0)) (items params) [] ≡ items_of (pieces s).params
+  same_items =
+      ap (λ (t : List ℕ). cond (not (eqb places.params.at 0)) (items t) []) q
+      ∙ ap (λ (x : Places). cond (not (eqb x.params.at 0)) (items (part_at s x.params)) []) e
+      ∙ items_there s z
+
+  values_are : span_texts params values ≡ named_values parameter_names (items_of (pieces s).params)
+  values_are = w.found ∙ ap (named_values parameter_names) same_items
+
+  unmatched_is : values.unmatched ≡ not (empty (unmatched_items parameter_names (items_of (pieces s).params)))
+  unmatched_is = w.unmatched_is ∙ ap (λ (is : List Item). not (empty (unmatched_items parameter_names is))) same_items
+
+  salt_is : span_text s places.salt ≡ (pieces s).salt
+  salt_is = ap (λ (x : Places). span_text s x.salt) e ∙ optional_piece s z Piece-as-Salt
+
+  output_is : span_text s places.output ≡ (pieces s).output
+  output_is = ap (λ (x : Places). span_text s x.output) e ∙ optional_piece s z Piece-as-Output
+
   -- the judge's answer to what was found
   abbrev pub Judged : Result Costs Refusal → Type 0
   Judged j =
@@ -195,7 +184,7 @@ module _ (s : List ℕ) (z : grammar_number s ≡ 0) (places : Places) (params :
 
   same_rows : rows_for r version (span_texts params values) values.unmatched (span_text s places.salt) (span_text s places.output)
       ≡ profile_rows edition_two (pieces s)
-  same_rows = λ i. rows_for (f.profile_is i) (f.version_is i) (f.values_are i) (f.unmatched_is i) (f.salt_is i) (f.output_is i)
+  same_rows = λ i. rows_for (profile_is i) (version_is i) (values_are i) (unmatched_is i) (salt_is i) (output_is i)
 
   judged_number : (j : Result Costs Refusal) → Judged j → number j ≡ reader_number edition_two s
   judged_number j d = d.number_is ∙ ap first_number same_rows ∙ sym (answer_rows edition_two s z)
@@ -210,19 +199,19 @@ module _ (s : List ℕ) (z : grammar_number s ≡ 0) (places : Places) (params :
   accepted-reading c d k kinds =
       let a : reader_number edition_two s ≡ 0 = sym (judged_number (Ok c) d) in
       let n : c ≡ costs_read (profile_of edition_two (id_of edition_two (pieces s).id)) (named_values parameter_names (items_of (pieces s).params)) =
-      d.value_is ∙ (λ i. costs_read (f.profile_is i) (f.values_are i)) in
-      let q : k ≡ kind_of (pieces s).salt (pieces s).output = kinds s ∙ (λ i. kind_of (f.salt_is i) (f.output_is i)) in
-      rw a (λ i. record { number = 0; kind = q i; fields = record { id = f.id_is i; version = f.version_is i; m = (n i).m; t = (n i).t; p = (n i).p } })
+      d.value_is ∙ (λ i. costs_read (profile_is i) (values_are i)) in
+      let o : k ≡ kind_of (pieces s).salt (pieces s).output = kinds s ∙ (λ i. kind_of (salt_is i) (output_is i)) in
+      rw a (λ i. record { number = 0; kind = o i; fields = record { id = id_is i; version = version_is i; m = (n i).m; t = (n i).t; p = (n i).p } })
 
   -- the texts of the four byte strings of an accepted string
   accepted_texts : reader_number edition_two s ≡ 0 → (k : ℕ) (n : NumberFields) (c : ByteString)
-      → let w : ParsedString = record { kind = k; fields = n; places = places; values = values } in
-      (canonical (chosen_text s w c) ≡ true) × (decode (chosen_text s w c) ≡ chosen c (fields_of edition_two s))
+      → let x : ParsedString = record { kind = k; fields = n; places = places; values = values } in
+      (canonical (chosen_text s x c) ≡ true) × (decode (chosen_text s x c) ≡ chosen c (fields_of edition_two s))
   unfolding fields_of
-  accepted_texts q k n c = pick c
+  accepted_texts a k n c = pick c
     where
       rows : Clear (profile_rows edition_two (pieces s))
-      rows = clear (profile_rows edition_two (pieces s)) refl (sym (answer_rows edition_two s z) ∙ q)
+      rows = clear (profile_rows edition_two (pieces s)) refl (sym (answer_rows edition_two s z) ∙ a)
 
       vs : List OptionalText
       vs = named_values parameter_names (items_of (pieces s).params)
@@ -242,19 +231,19 @@ module _ (s : List ℕ) (z : grammar_number s ≡ 0) (places : Places) (params :
 
       -- an optional text that is the one of the rules
       by : (o u : OptionalText) → o ≡ u → canonical (text_of u) ≡ true → (canonical (text_of o) ≡ true) × (decode (text_of o) ≡ read_bytes u)
-      by o u e h = (ap (λ (x : OptionalText). canonical (text_of x)) e ∙ h, decode_optional o ∙ ap read_bytes e)
+      by o u g h = (ap (λ (y : OptionalText). canonical (text_of y)) g ∙ h, decode_optional o ∙ ap read_bytes g)
 
       at : (k : ℕ) → value_at (span_texts (part_at s places.params) values) k ≡ value_at vs k
-      at k = ap (λ (l : List OptionalText). value_at l k) (ap (λ (t : List ℕ). span_texts t values) (sym f.params_are) ∙ f.values_are)
+      at k = ap (λ (l : List OptionalText). value_at l k) (ap (λ (t : List ℕ). span_texts t values) (sym q) ∙ values_are)
 
-      w : ParsedString
-      w = record { kind = k; fields = n; places = places; values = values }
+      x : ParsedString
+      x = record { kind = k; fields = n; places = places; values = values }
 
-      pick : (c : ByteString) → (canonical (chosen_text s w c) ≡ true) × (decode (chosen_text s w c) ≡ chosen c (fields_of edition_two s))
+      pick : (c : ByteString) → (canonical (chosen_text s x c) ≡ true) × (decode (chosen_text s x c) ≡ chosen c (fields_of edition_two s))
       pick Keyid = by _ (value_at vs 3) (at 3) (canonical_optional column.keyid (value_at vs 3) keyid_row)
       pick Data = by _ (value_at vs 4) (at 4) (canonical_optional column.«data» (value_at vs 4) data_row)
-      pick Salt = by _ (pieces s).salt f.salt_is (canonical_optional column.salt (pieces s).salt salt_row)
-      pick Output = by _ (pieces s).output f.output_is (canonical_output (pieces s).output (accepted_rows s z).1.1.1.1.1.0)
+      pick Salt = by _ (pieces s).salt salt_is (canonical_optional column.salt (pieces s).salt salt_row)
+      pick Output = by _ (pieces s).output output_is (canonical_output (pieces s).output (accepted_rows s z).1.1.1.1.1.0)
 
   pub parsed_accepted : (c : Costs) → Judged (Ok c) → (k : ℕ) → ((t : List ℕ) → k ≡ kind_of (span_text t places.salt) (span_text t places.output))
       → ParsedIs s (Ok (record { kind = k; fields = record { id = id; version = version; m = c.m; t = c.t; p = c.p }; places = places; values = values }))
