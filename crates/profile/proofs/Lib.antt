@@ -10,7 +10,6 @@ pub mod Texts
 pub mod Lengths
 pub mod Strings
 pub mod OptionalTextLaws
-pub mod FieldLaws
 pub mod ValueLaws
 pub mod JudgeLaws
 pub mod ReadLaws

@@ -27,14 +27,19 @@ use Rattle.profile.proofs.OptionalTextLaws.{optional_some}
 
 -- ---- a step over the item found at a place
 
-module _ (s name : List ℕ) (at : ℕ) (h : at ≤ length s) (ok : all is_item (items_from s at) ≡ true) (w : ItemPlace) (q : w ≡ item_place s at) where
-  pub step_to : same (part_at s w.name) name ≡ true → ValueStep s name at w.value w.next
-  step_to b =
+module _ (s name : List ℕ) (at : ℕ) (h : at ≤ length s) (ok : all is_item (items_from s at) ≡ true) (w : ItemPlace) (q : w ≡ item_place s at)
+    (t : List ℕ) (e : t ≡ part_at s w.name) where
+  named_as : (b : Bool) → b ≡ same t name → same (part_at s w.name) name ≡ b
+  named_as b h = sym (h ∙ ap (λ (n : List ℕ). same n name) e)
+
+  pub step_to : true ≡ same t name → ValueStep s name at w.value w.next
+  step_to n =
       let i = items_found s at h w q in
+      let b = named_as true n in
       record { found = optional_some s w.value (λ z. kept_value_at s at h ok (sym (ap (λ (v : ItemPlace). v.value.at) q) ∙ z)) ∙ rw (i, b); left = rw (i, b) }
 
-  pub step_not : same (part_at s w.name) name ≡ false → ValueStep s name at (span 0 0) at
-  step_not b = let i = items_found s at h w q in record { found = rw (i, b); left = rw (i, b) }
+  pub step_not : false ≡ same t name → ValueStep s name at (span 0 0) at
+  step_not n = let i = items_found s at h w q in let b = named_as false n in record { found = rw (i, b); left = rw (i, b) }
 
 pub step_past : (s name : List ℕ) (at : ℕ) → length s < at → ValueStep s name at (span 0 0) at
 step_past s name at h =
@@ -55,6 +60,9 @@ all_tail f g (i ∷ is) e = go (g i)
 empty-map : (f : List ℕ → Item) (l : List (List ℕ)) → empty (map f l) ≡ empty l
 empty-map f [] = refl
 empty-map f (x ∷ l) = refl
+
+pub at_start : (s : List ℕ) → all is_item (items s) ≡ true → all is_item (items_from s 0) ≡ true
+at_start s e = ap (all is_item) (sym (items_start s)) ∙ e
 
 module _ {s name : List ℕ} {at : ℕ} {w : Span} {next : ℕ} (step : ValueStep s name at w next) where
   pub on : all is_item (items_from s at) ≡ true → all is_item (items_from s next) ≡ true

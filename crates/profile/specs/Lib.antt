@@ -8,3 +8,4 @@ pub mod Claims
 pub mod Strings
 pub mod ReaderSteps
 pub mod PieceTexts
+pub mod WriterSteps

@@ -17,7 +17,7 @@ pub fn unknown_bytes(rule: BytesRule, span: Span) -> bool
     ensures { (t : List ℕ) → result ≡ unknown_bytes rule (span_text t span) }
 {
     match rule {
-        BytesRule::Sized { low: _, high: _ } => false,
+        BytesRule::Sized { .. } => false,
         BytesRule::Forbidden => span.at != 0,
     }
 }
@@ -26,32 +26,19 @@ pub fn unknown_bytes(rule: BytesRule, span: Span) -> bool
 pub fn bad_size(rule: BytesRule, t: &[u8], span: Span) -> bool
     ensures { result ≡ violates (is_decoded_size rule) (span_text t.now span) }
 {
-    if span.at == 0 {
-        return false;
-    }
-    let text = part(t, span);
-    !is_size(rule, decoded_len(Chars(text.len())))
+    span.at != 0 && !is_size(rule, decoded_len(Chars(part(t, span).len())))
 }
 
 // There, and not canonical or not of a permitted size.
 pub fn bad_bytes(rule: BytesRule, t: &[u8], span: Span) -> bool
     ensures { result ≡ violates (is_bytes rule) (span_text t.now span) }
 {
-    if span.at == 0 {
-        return false;
-    }
-    if !is_canonical(part(t, span)) {
-        return true;
-    }
-    bad_size(rule, t, span)
+    span.at != 0 && (!is_canonical(part(t, span)) || bad_size(rule, t, span))
 }
 
 // Empty, or of a permitted size.
 pub fn bytes_allowed(rule: BytesRule, bytes: &[u8]) -> bool
     ensures { result ≡ bytes_allowed rule bytes.now }
 {
-    if bytes.len() == 0 {
-        return true;
-    }
-    is_size(rule, Bytes(bytes.len()))
+    bytes.is_empty() || is_size(rule, Bytes(bytes.len()))
 }

@@ -1,12 +1,12 @@
 // The five profiles over the grammar's promises: argon2d, argon2i, argon2id, pbkdf2s2, pbkdf2s3.
 #![tactic(auto)]
 
+mod byte_strings;
 mod bytes_field;
 pub mod fields;
 mod judge;
 mod name_field;
 mod number_field;
-pub mod numbers;
 mod parsed;
 pub mod reader;
 mod tagged;

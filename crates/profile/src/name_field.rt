@@ -12,9 +12,7 @@ use text::units::Chars;
 pub fn name_len(index: usize) -> Chars
     ensures { result.0 ≡ length (name_at index) }
 {
-    let names = &NAMES;
-    let name = name_at(names, index);
-    Chars(name.len())
+    Chars(name_at(&NAMES, index).len())
 }
 
 // Puts a `$` and the name at an index of the table at the start of a buffer.
@@ -22,9 +20,6 @@ pub fn put_name(index: usize, out: &mut [u8]) -> Chars
     requires { suc (length (name_at index)) ≤ length out.old }
     ensures { Wrote (dollar ∷ name_at index) out.old out.new result.0 }
 {
-    let names = &NAMES;
-    let first = put_text(b"$", out);
-    let after_dollar = first.0;
-    let name = put_text(name_at(names, index), &mut out[after_dollar..]);
-    Chars(after_dollar + name.0)
+    let after_dollar = put_text(b"$", out).0;
+    Chars(after_dollar + put_text(name_at(&NAMES, index), &mut out[after_dollar..]).0)
 }

@@ -1,87 +1,63 @@
 // One number parameter: its rule over the span of its value, and its text.
 ghost use Rattle.std.specs.Prelude.{ℕ, ◌≤◌, ◌≡◌, List, length};
 ghost use Rattle.std.proofs.Math.Option.{some};
-ghost use Rattle.text.specs.Rows.{first_number};
 ghost use Rattle.text.specs.Place.{Wrote};
-ghost use Rattle.decimal.specs.Numerals.{limited_value};
 ghost use Rattle.table.specs.Limits.{longest_permitted, missing_or_unknown_number};
-ghost use Rattle.profile.specs.Fields.{number_reading, read_number, written_out, write_number};
+ghost use Rattle.profile.specs.Fields.{read_number, written_out, write_number};
 ghost use Rattle.profile.specs.Reader.{number_row};
-ghost use Rattle.profile.specs.ReaderSteps.{span_text};
+ghost use Rattle.profile.specs.ReaderSteps.{span_text, Answers};
 ghost use Rattle.profile.specs.PieceTexts.{tagged, tagged_length};
 
-use crate::numbers::WRONG_NUMBER;
 use crate::tagged::{decimal_len, put_decimal};
 use decimal::reader::{Limited, read_within};
 use grammar::places::{Span, part};
+use refusals::Refusal;
 use table::limits::NumberRule;
 use table::omitted::{default_of, is_omitted};
 use table::ranges::{highest_of, lowest_of};
 use text::units::Chars;
-
-// What was read: the number of the row that applies, 0 where none does, and the value.
-#[derive(Clone, Copy)]
-pub struct Number {
-    pub number: u8,
-    pub value: u32,
-}
 
 // Missing where it is required, or there where it is no parameter. The text doesn't matter.
 pub fn missing_or_unknown(rule: NumberRule, span: Span) -> bool
     ensures { (t : List ℕ) → result ≡ missing_or_unknown_number rule (span_text t span) }
 {
     match rule {
-        NumberRule::Required { low: _, high: _ } => span.at == 0,
-        NumberRule::Defaulted {
-            low: _,
-            high: _,
-            default: _,
-        } => false,
-        NumberRule::Constant { value: _ } => span.at != 0,
+        NumberRule::Required { .. } => span.at == 0,
+        NumberRule::Defaulted { .. } => false,
+        NumberRule::Constant { .. } => span.at != 0,
     }
 }
 
 // The text of a value, read by its rule.
-fn written(rule: NumberRule, text: &[u8]) -> Number
-    ensures { (result.number ≡ first_number (number_row rule (some text.now))) × (result.value ≡ limited_value (number_reading rule text.now)) }
+fn written(rule: NumberRule, text: &[u8]) -> Result<u32, Refusal>
+    ensures { Answers (number_row rule (some text.now)) (read_number rule (some text.now)) result }
 {
-    match read_within(text, lowest_of(rule) as u64, highest_of(rule) as u64) {
-        Limited::Malformed => Number {
-            number: WRONG_NUMBER,
-            value: 0,
-        },
-        Limited::Outside => Number {
-            number: WRONG_NUMBER,
-            value: 0,
-        },
-        Limited::Value(n) => Number {
-            number: 0,
-            value: n as u32,
-        },
+    match read_within(
+        text,
+        u64::from(lowest_of(rule)),
+        u64::from(highest_of(rule)),
+    ) {
+        Limited::Value(n) => Ok(n as u32),
+        Limited::Malformed | Limited::Outside => Err(Refusal::WrongNumber),
     }
 }
 
 // A number parameter: as written or, where it is left out, what its rule gives.
-pub fn read_number(rule: NumberRule, t: &[u8], span: Span) -> Number
-    ensures { (result.number ≡ first_number (number_row rule (span_text t.now span))) × (result.value ≡ read_number rule (span_text t.now span)) }
+pub fn read_number(rule: NumberRule, t: &[u8], span: Span) -> Result<u32, Refusal>
+    ensures { Answers (number_row rule (span_text t.now span)) (read_number rule (span_text t.now span)) result }
 {
     if span.at == 0 {
-        return Number {
-            number: 0,
-            value: default_of(rule),
-        };
+        Ok(default_of(rule))
+    } else {
+        written(rule, part(t, span))
     }
-    written(rule, part(t, span))
 }
 
 // Written out, though it is to be left out.
 pub fn written_out(rule: NumberRule, span: Span, value: u32) -> bool
     ensures { (t : List ℕ) → value ≡ read_number rule (span_text t span) → result ≡ written_out rule (span_text t span) }
 {
-    if span.at == 0 {
-        return false;
-    }
-    is_omitted(rule, value)
+    span.at != 0 && is_omitted(rule, value)
 }
 
 // The length of a number after a tag of so many characters; nothing where it is left out.

@@ -1,5 +1,6 @@
 // The profile reader: kind and number fields of a string, or the number of the row that refuses it; and the byte-string entry.
-ghost use Rattle.std.specs.Prelude.{ℕ, ◌≡◌, List, [], true, cond};
+ghost use Rattle.std.specs.Prelude.{ℕ, ◌≤◌, ◌≡◌, List, [], true, cond};
+ghost use Rattle.refusals.specs.Numbers.{number};
 ghost use Rattle.text.specs.Text.{all};
 ghost use Rattle.text.specs.Place.{outcome};
 ghost use Rattle.grammar.specs.Parts.{text_of};
@@ -20,6 +21,7 @@ use b64::decoder::decode;
 use decimal::reader::Limited;
 use grammar::places::{Places, Span, part};
 use grammar::version::version_number;
+use refusals::Refusal;
 use table::columns::column_of;
 use table::ids::id_number;
 use table::version::Version;
@@ -34,9 +36,8 @@ fn version_in(s: &[u8], span: Span) -> Version
         return Version::Absent;
     }
     match version_number(part(s, span)) {
-        Limited::Malformed => Version::Number(0),
-        Limited::Outside => Version::Number(0),
         Limited::Value(n) => Version::Number(n as u32),
+        Limited::Malformed | Limited::Outside => Version::Number(0),
     }
 }
 
@@ -45,12 +46,12 @@ fn kind_of(salt: Span, output: Span) -> u8
     ensures { (s : List ℕ) → result ≡ kind_of (span_text s salt) (span_text s output) }
 {
     if output.at != 0 {
-        return 3;
+        3
+    } else if salt.at != 0 {
+        2
+    } else {
+        1
     }
-    if salt.at != 0 {
-        return 2;
-    }
-    1
 }
 
 // The version that a version field means, where an absent one means `implied`.
@@ -69,73 +70,81 @@ fn values_at(params: &[u8], there: bool) -> Values
     ensures { ValuesAre params.now (cond there (items params.now) []) result }
 {
     if there {
-        return values_in(params);
+        values_in(params)
+    } else {
+        no_values()
     }
-    no_values()
 }
 
 // A string that the grammar accepts, with the places of its pieces.
-fn read_pieces(s: &[u8], places: Places) -> ParsedString
+fn read_pieces(s: &[u8], places: Places) -> Result<ParsedString, Refusal>
     requires { (grammar_number s.now ≡ 0) × (places ≡ places_of (pieces s.now)) }
     ensures { ParsedIs s.now result }
 {
-    let id_span = places.id;
-    let version_span = places.version;
-    let params_span = places.params;
-    let salt = places.salt;
-    let output = places.output;
-    let id = id_number(part(s, id_span));
-    let version = version_in(s, version_span);
-    let params = part(s, params_span);
-    let values = values_at(params, params_span.at != 0);
-    let j = judge(column_of(id), version, params, values, s, salt, output);
-    if j.number != 0 {
-        return ParsedString {
-            reading: Reading::refused(j.number),
-            places,
-            values,
-        };
-    }
-    ParsedString {
-        reading: Reading {
-            number: 0,
-            kind: kind_of(salt, output),
-            fields: NumberFields {
-                id,
-                version,
-                m: j.m,
-                t: j.t,
-                p: j.p,
-            },
+    let id = id_number(part(s, places.id));
+    let version = version_in(s, places.version);
+    let params = part(s, places.params);
+    let values = values_at(params, places.params.at != 0);
+    let costs = judge(
+        column_of(id),
+        version,
+        params,
+        values,
+        s,
+        places.salt,
+        places.output,
+    )?;
+    Ok(ParsedString {
+        kind: kind_of(places.salt, places.output),
+        fields: NumberFields {
+            id,
+            version,
+            m: costs.m,
+            t: costs.t,
+            p: costs.p,
         },
         places,
         values,
+    })
+}
+
+// The grammar's number as a refusal.
+fn grammar_answer(n: u8) -> Result<(), Refusal>
+    ensures { n ≤ 7 → number result ≡ n }
+{
+    match n {
+        0 => Ok(()),
+        1 => Err(Refusal::BadString),
+        2 => Err(Refusal::BadId),
+        3 => Err(Refusal::BadVersion),
+        4 => Err(Refusal::BadParameters),
+        5 => Err(Refusal::BadSalt),
+        6 => Err(Refusal::BadOutput),
+        _ => Err(Refusal::TooManyPieces),
     }
 }
 
 // One reading of any string.
-fn parse(s: &[u8]) -> ParsedString
+fn parse(s: &[u8]) -> Result<ParsedString, Refusal>
     ensures { ParsedIs s.now result }
 {
     let layout = grammar::pieces::read(s);
-    let places = layout.places;
-    let number = layout.number;
-    if number != 0 {
-        return ParsedString {
-            reading: Reading::refused(number),
-            places,
-            values: no_values(),
-        };
-    }
-    read_pieces(s, places)
+    grammar_answer(layout.number)?;
+    read_pieces(s, layout.places)
 }
 
 // The profile reader: kind, id, version, m, t and p of a string; or 1 to 15 and zeros, version absent.
 pub fn read(s: &[u8]) -> Reading
     ensures { result ≡ reading edition_two s.now }
 {
-    let parsed = parse(s);
-    parsed.reading
+    match parse(s) {
+        Ok(parsed) => Reading {
+            number: 0,
+            kind: parsed.kind,
+            fields: parsed.fields,
+        },
+        Err(refusal) => Reading::refused(refusal.number()),
+    }
 }
 
 // The algorithm version that a reader's answer means: the one written, or the one that the profile implies. Of a refusal it is 0, as its fields
@@ -143,12 +152,10 @@ pub fn read(s: &[u8]) -> Reading
 pub fn algorithm_version_of(r: Reading) -> AlgorithmVersion
     ensures { result ≡ algorithm_version_of edition_two r }
 {
-    let fields = r.fields;
-    let version = fields.version;
-    let column = column_of(fields.id);
+    let column = column_of(r.fields.id);
     AlgorithmVersion {
         number: r.number,
-        version: version_or(column.implied, version),
+        version: version_or(column.implied, r.fields.version),
     }
 }
 
@@ -163,10 +170,7 @@ pub fn algorithm_version(s: &[u8]) -> AlgorithmVersion
 fn text_at(t: &[u8], span: Span) -> &[u8]
     ensures { result.now ≡ text_of (span_text t.now span) }
 {
-    if span.at == 0 {
-        return &t[0..0];
-    }
-    part(t, span)
+    if span.at == 0 { b"" } else { part(t, span) }
 }
 
 // The text of a byte string in what was read.
@@ -174,11 +178,9 @@ fn text_of(s: &[u8], parsed: ParsedString, choice: ByteString) -> &[u8]
     ensures { result.now ≡ chosen_text s.now parsed choice }
 {
     let places = parsed.places;
-    let values = parsed.values;
-    let params = places.params;
     match choice {
-        ByteString::Keyid => text_at(part(s, params), values.keyid),
-        ByteString::Data => text_at(part(s, params), values.data),
+        ByteString::Keyid => text_at(part(s, places.params), parsed.values.keyid),
+        ByteString::Data => text_at(part(s, places.params), parsed.values.data),
         ByteString::Salt => text_at(s, places.salt),
         ByteString::Output => text_at(s, places.output),
     }
@@ -188,14 +190,11 @@ fn text_of(s: &[u8], parsed: ParsedString, choice: ByteString) -> &[u8]
 pub fn byte_string(s: &[u8], choice: ByteString, buf: &mut [u8], at: usize) -> Decoded
     ensures { outcome result.number result.count.0 buf.new ≡ decoded edition_two choice s.now buf.old at }
 {
-    let parsed = parse(s);
-    let reading = parsed.reading;
-    let number = reading.number;
-    if number != 0 {
-        return Decoded {
-            number,
+    match parse(s) {
+        Ok(parsed) => decode(text_of(s, parsed, choice), buf, at),
+        Err(refusal) => Decoded {
+            number: refusal.number(),
             count: Bytes(0),
-        };
+        },
     }
-    decode(text_of(s, parsed, choice), buf, at)
 }

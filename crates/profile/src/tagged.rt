@@ -17,8 +17,7 @@ pub fn put_text(text: &[u8], out: &mut [u8]) -> Chars
     requires { length text.now ≤ length out.old }
     ensures { Wrote text.now out.old out.new result.0 }
 {
-    let w = write_text(text, out, 0);
-    w.count
+    write_text(text, out, 0).count
 }
 
 // A number after its tag.
@@ -26,10 +25,8 @@ pub fn put_decimal(tag: &[u8], n: u32, out: &mut [u8]) -> Chars
     requires { length (tag.now ++ digits n) ≤ length out.old }
     ensures { Wrote (tag.now ++ digits n) out.old out.new result.0 }
 {
-    let put = put_text(tag, out);
-    let at = put.0;
-    let w = write_unsigned(n as u64, out, at);
-    Chars(at + w.count.0)
+    let at = put_text(tag, out).0;
+    Chars(at + write_unsigned(u64::from(n), out, at).count.0)
 }
 
 // The length of a number after a tag of so many characters.
@@ -37,7 +34,7 @@ pub fn decimal_len(tag: Chars, n: u32) -> Chars
     requires { tag.0 ≤ longest_permitted }
     ensures { result.0 ≡ tag.0 + length (digits n) }
 {
-    tag.plus(unsigned_len(n as u64))
+    tag.plus(unsigned_len(u64::from(n)))
 }
 
 // A byte string after its tag; nothing where it is empty.
@@ -45,13 +42,11 @@ pub fn put_bytes(tag: &[u8], bytes: &[u8], out: &mut [u8]) -> Chars
     requires { length (tagged tag.now (write_bytes bytes.now)) ≤ length out.old }
     ensures { Wrote (tagged tag.now (write_bytes bytes.now)) out.old out.new result.0 }
 {
-    if bytes.len() == 0 {
+    if bytes.is_empty() {
         return Chars(0);
     }
-    let put = put_text(tag, out);
-    let at = put.0;
-    let w = encode(bytes, out, at);
-    Chars(at + w.count.0)
+    let at = put_text(tag, out).0;
+    Chars(at + encode(bytes, out, at).count.0)
 }
 
 // The length of a byte string after a tag of so many characters.
@@ -59,7 +54,7 @@ pub fn bytes_len(tag: Chars, bytes: &[u8]) -> Chars
     requires { tagged_length tag.0 (write_bytes bytes.now) ≤ longest_permitted }
     ensures { result.0 ≡ tagged_length tag.0 (write_bytes bytes.now) }
 {
-    if bytes.len() == 0 {
+    if bytes.is_empty() {
         return Chars(0);
     }
     tag.plus(encoded_len(Bytes(bytes.len())))

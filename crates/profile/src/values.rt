@@ -44,11 +44,9 @@ fn take_value(params: &[u8], at: usize, name: &[u8]) -> Step
         };
     }
     let item = item_place(params, at);
-    let item_name = item.name;
-    let value = item.value;
-    if same_text(part(params, item_name), name) {
+    if same_text(part(params, item.name), name) {
         Step {
-            span: value,
+            span: item.value,
             next: item.next,
         }
     } else {
@@ -69,17 +67,12 @@ pub fn values_in(params: &[u8]) -> Values
     let p = take_value(params, t.next, b"p");
     let keyid = take_value(params, p.next, b"keyid");
     let data = take_value(params, keyid.next, b"data");
-    let m_span = m.span;
-    let t_span = t.span;
-    let p_span = p.span;
-    let keyid_span = keyid.span;
-    let data_span = data.span;
     Values {
-        m: m_span,
-        t: t_span,
-        p: p_span,
-        keyid: keyid_span,
-        data: data_span,
+        m: m.span,
+        t: t.span,
+        p: p.span,
+        keyid: keyid.span,
+        data: data.span,
         unmatched: data.next <= params.len(),
     }
 }

@@ -5,14 +5,35 @@ ghost use Rattle.table.specs.Limits.{edition_two};
 ghost use Rattle.profile.specs.Fields.{field_set};
 ghost use Rattle.profile.specs.Writer.{short_fields};
 ghost use Rattle.profile.specs.Entries.{writing, short_writing};
+ghost use Rattle.profile.specs.WriterSteps.{fields_with, outcome_of};
 
+use crate::byte_strings::ByteStrings;
 use crate::fields::NumberFields;
-use crate::writer_rows::refusal_of;
+use crate::writer_rows::permitted;
 use crate::writer_text::{put_string, string_len};
+use refusals::Refusal;
 use table::columns::column_of;
-use text::numbers::NO_ROOM;
 use text::place::{Written, has_room};
 use text::units::Chars;
+
+// Writes the string of the fields, where they are permitted and it fits; the count is its length.
+fn write_permitted(
+    n: NumberFields,
+    strings: ByteStrings,
+    buf: &mut [u8],
+    at: usize,
+) -> Result<Chars, Refusal>
+    ensures { outcome_of result buf.new ≡ writing edition_two (fields_with n strings.entry) buf.old at }
+{
+    let column = column_of(n.id);
+    permitted(column, n, strings)?;
+    let count = string_len(column, n, strings);
+    if !has_room(buf.len(), at, count.0) {
+        return Err(Refusal::NoRoom);
+    }
+    put_string(column, n, strings, &mut buf[at..]);
+    Ok(count)
+}
 
 // Writes the string of the fields into `buf` from `at` on; the count is its length. 8, 9, 11, 12, 14, 15, 16, then 17.
 pub fn write(
@@ -26,35 +47,29 @@ pub fn write(
 ) -> Written
     ensures { outcome result.number result.count.0 buf.new ≡ writing edition_two (field_set n keyid.now «data».now salt.now output.now) buf.old at }
 {
-    let column = column_of(n.id);
-    let number = refusal_of(column, n, keyid, data, salt, output);
-    if number != 0 {
-        return Written {
-            number,
+    let strings = ByteStrings {
+        keyid,
+        data,
+        salt,
+        output,
+    };
+    match write_permitted(n, strings, buf, at) {
+        Ok(count) => Written { number: 0, count },
+        Err(refusal) => Written {
+            number: refusal.number(),
             count: Chars(0),
-        };
+        },
     }
-    let count = string_len(column, n, keyid, data, salt, output);
-    if !has_room(buf.len(), at, count.0) {
-        return Written {
-            number: NO_ROOM,
-            count: Chars(0),
-        };
-    }
-    put_string(column, n, keyid, data, salt, output, &mut buf[at..]);
-    Written { number: 0, count }
 }
 
 // The number fields that the short writer uses.
 fn short_fields(id: u8) -> NumberFields
     ensures { result ≡ (short_fields edition_two id [] []).numbers }
 {
-    let column = column_of(id);
-    let defaults = column.defaults;
-    let version = defaults.version;
+    let defaults = column_of(id).defaults;
     NumberFields {
         id,
-        version,
+        version: defaults.version,
         m: defaults.m,
         t: defaults.t,
         p: defaults.p,

@@ -6,4 +6,4 @@ use Rattle.profile.proofs.name_field.name_len.Goals as goal
 
 pub returns : goal.returns
 unfolding edition_two
-returns c = ap length c.name_at-name.ensures
+returns c = ap length c.name_at.ensures

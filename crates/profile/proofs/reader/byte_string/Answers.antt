@@ -3,13 +3,12 @@ use mathlib.Core.Path.{◌∙◌}
 use Rattle.profile.proofs.ReadLaws.{bytes-refused, bytes-decoded}
 use Rattle.profile.proofs.reader.byte_string.Goals as goal
 
-pub returns-then-number-ne0 : goal.returns-then-number-ne0
-returns-then-number-ne0 c =
+pub returns-in-Ok : goal.returns-in-Ok
+returns-in-Ok c =
     let a = c.args in
-    bytes-refused a.s.now c.parse-parsed.result c.parse-parsed.ensures a.choice a.buf.now a.at c.if-number-ne0.true
+    c.decode.ensures ∙ bytes-decoded a.s.now a.choice a.buf.now a.at c.in-Ok.parsed c.in-Ok.ensures c.text_of.result.now c.text_of.ensures
 
-pub returns : goal.returns
-returns c =
+pub returns-in-Err : goal.returns-in-Err
+returns-in-Err c =
     let a = c.args in
-    c.decode.ensures
-    ∙ bytes-decoded a.s.now c.parse-parsed.result c.parse-parsed.ensures a.choice a.buf.now a.at c.if-number-ne0.false c.text_of.result.now c.text_of.ensures
+    rw c.number.ensures (bytes-refused a.s.now a.choice a.buf.now a.at _ c.in-Err.ensures)

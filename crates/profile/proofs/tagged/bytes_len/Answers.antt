@@ -13,7 +13,7 @@ use Rattle.profile.proofs.tagged.bytes_len.Goals as goal
 
 pub returns : goal.returns
 returns c =
-    let there : tagged_length c.args.tag.0 (write_bytes c.args.bytes.now) ≡ c.args.tag.0 + length (encode c.args.bytes.now) = rw (some_bytes c.args.bytes.now c.if-bytes-eq0.false) in
+    let there : tagged_length c.args.tag.0 (write_bytes c.args.bytes.now) ≡ c.args.tag.0 + length (encode c.args.bytes.now) = rw (some_bytes c.args.bytes.now c.if-is_empty.ensures) in
     let fits : c.args.tag.0 + length (encode c.args.bytes.now) ≤ longest_permitted = rw there at c.requires in
     let counted : c.encoded_len.result.0 ≡ length (encode c.args.bytes.now) = omega (arith, c.encoded_len.ensures, length_encode c.args.bytes.now, fits) in
     rw there (omega (arith, c.plus.ensures, counted, fits))

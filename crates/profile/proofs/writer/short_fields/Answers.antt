@@ -9,4 +9,4 @@ pub returns : goal.returns
 unfolding short_fields
 returns c =
     let id = c.args.id in
-    ap {B = NumberFields} (λ (r : Profile). record { id = id; version = r.defaults.version; m = r.defaults.m; t = r.defaults.t; p = r.defaults.p }) c.column_of-column.ensures.0
+    ap {B = NumberFields} (λ (r : Profile). record { id = id; version = r.defaults.version; m = r.defaults.m; t = r.defaults.t; p = r.defaults.p }) c.column_of.ensures.0
