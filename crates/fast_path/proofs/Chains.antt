@@ -150,20 +150,16 @@ module _ (r : Profile) (k : ℕ) (s : List ℕ) where
     pub after_some : (n : Taken NumberFields) → head_in r k s ≡ some n → fields_after_id r k s ≡ with_strings r n
     after_some n q = rw (q, is_true r.known z)
 
-pub walked_empty : (e : List Profile) (s : List ℕ) → length s ≡ 0 → walked e s ≡ none
+-- no `$` stands first
+pub walked_other : (e : List Profile) (s : List ℕ) → (0 < length s → get_or s 0 0 ≡ 36 → ⊥) → walked e s ≡ none
 unfolding walked
-walked_empty e [] h = refl
-walked_empty e (c ∷ s) h = absurd (omega arith)
+walked_other e [] n = refl
+walked_other e (c ∷ s) n = rw (ne_eqb c 36 (n (omega arith)))
 
-pub walked_other : (e : List Profile) (s : List ℕ) → (length s ≡ 0 → ⊥) → (get_or s 0 0 ≡ 36 → ⊥) → walked e s ≡ none
-unfolding walked
-walked_other e [] h n = refl
-walked_other e (c ∷ s) h n = rw (ne_eqb c 36 n)
-
-pub walked_id : (e : List Profile) (s : List ℕ) (end : ℕ) → (length s ≡ 0 → ⊥) → get_or s 0 0 ≡ 36 → end ≡ next_at 36 s 1
+pub walked_id : (e : List Profile) (s : List ℕ) (end : ℕ) → 0 < length s → get_or s 0 0 ≡ 36 → end ≡ next_at 36 s 1
     → let k = id_of e (take (end - 1) (drop 1 s)) in walked e s ≡ fields_after_id (profile_of e k) k (drop end s)
 unfolding walked
-walked_id e [] end h n q = absurd (h refl)
+walked_id e [] end h n q = absurd (omega arith)
 walked_id e (c ∷ s) end h n q =
     let a : end - 1 ≡ find 36 s = omega arith in
     let b : end ≡ suc (find 36 s) = omega arith in

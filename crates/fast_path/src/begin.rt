@@ -3,35 +3,11 @@ ghost use Rattle.std.specs.Prelude.{◌≡◌, ◌≤◌, [], ◌∷◌, length,
 ghost use Rattle.text.specs.Text.{starts_with};
 ghost use Rattle.grammar.specs.Bytes.{equals};
 
-// Whether a name stands at a place.
-fn same_at(s: &[u8], at: usize, name: &[u8]) -> bool
-    requires { at ≤ length s.now }
-    ensures { result ≡ starts_with name.now (drop at s.now) }
-{
-    if s.len() - at < name.len() {
-        return false;
-    }
-    let mut i = 0;
-    while i < name.len() {
-        if s[at + i] != name[i] {
-            return false;
-        }
-        i += 1;
-    }
-    true
-}
-
 // Whether a separator stands at a place, and a name after it.
 pub fn begins(s: &[u8], at: usize, separator: u8, name: &[u8]) -> bool
     ensures { result ≡ starts_with (separator ∷ name.now) (drop at s.now) }
 {
-    if s.len() <= at {
-        return false;
-    }
-    if s[at] != separator {
-        return false;
-    }
-    same_at(s, at + 1, name)
+    s.get(at) == Some(&separator) && s[at + 1..].starts_with(name)
 }
 
 // The same for a name of one letter and `=`, as the numbers have: three comparisons and no loop.

@@ -7,4 +7,4 @@ use Rattle.fast_path.proofs.numbers.numbers.Goals as goal
 pub loop-index-init : goal.loop-index-init
 loop-index-init c =
     let a = c.args in
-    (c.requires, omega arith, numbers_start (profile_in a.column) a.id a.version (record { m = 0; t = 0; p = 0 }) (drop a.at a.s.now))
+    (c.requires, numbers_start (profile_in a.column) a.id a.version (record { m = 0; t = 0; p = 0 }) (drop a.at a.s.now))

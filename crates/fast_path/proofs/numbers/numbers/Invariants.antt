@@ -6,7 +6,4 @@ use Rattle.fast_path.proofs.Chains.{numbers_left}
 use Rattle.fast_path.proofs.numbers.numbers.Given as goal
 
 abbrev pub invariant-loop-index : goal.invariant-loop-index
-invariant-loop-index l = (l.place ≤ length l.s) × (l.index ≤ 3) × (numbers_left (profile_in l.column) l.id l.version l.index l.costs l.separator (drop l.place l.s) ≡ numbers_in (profile_in l.column) l.id l.version (drop l.at l.s))
-
-abbrev pub decreases-loop-index : goal.decreases-loop-index
-decreases-loop-index l = 3 - l.index
+invariant-loop-index l = (l.next ≤ length l.s) × (numbers_left (profile_in l.column) l.id l.version l.index l.costs l.separator (drop l.next l.s) ≡ numbers_in (profile_in l.column) l.id l.version (drop l.at l.s))
