@@ -1,14 +1,13 @@
 -- What the private steps of the walk promise each other: places in the string for the texts of the walk, and the bytes that they leave in a
 -- buffer. Nothing here is a rule: no public contract cites it.
 -- Assumes nothing.
-use Rattle.std.specs.Prelude.{◌≡◌, ℕ, zero, suc, ◌+◌, ◌≤◌, cond, List, ◌++◌, length, take, drop, ◌==◌, Option as Answer, Some, None}
+use Rattle.std.specs.Prelude.{◌≡◌, ℕ, ◌+◌, ◌≤◌, cond, List, ◌++◌, length, take, drop, ◌==◌, Option as Answer, Some, None}
 use Rattle.std.proofs.Math.Option.{Option, none, some}
 use Rattle.text.specs.Place.{over, put}
 use Rattle.text.specs.Text.{run}
 use Rattle.decimal.specs.Decimal.{is_digit, value}
 use Rattle.grammar.specs.Bytes.{dollar}
 use Rattle.table.specs.Limits.{Profile}
-use Rattle.table.specs.declared.limits.NumberRule.{NumberRule}
 use Rattle.table.specs.declared.limits.BytesRule.{BytesRule}
 use Rattle.table.specs.declared.limits.BytesRule.TheVariants.{Sized, Forbidden}
 use Rattle.table.specs.declared.version.Version.{Version}
@@ -22,7 +21,6 @@ use Rattle.fast_path.specs.declared.items.NumberItem.{NumberItem}
 use Rattle.fast_path.specs.declared.items.BytesItem.{BytesItem}
 use Rattle.fast_path.specs.declared.strings.Two.{Two}
 use Rattle.fast_path.specs.declared.walk.VersionItem.{VersionItem}
-use Rattle.fast_path.specs.declared.numbers.Costs.{Costs}
 use Rattle.fast_path.specs.declared.numbers.Head.{Head}
 
 -- ---- numbers
@@ -43,22 +41,6 @@ LeadingNumberIs s at (Some n) = (leading_number (drop at s) ≡ some (n.value, d
 abbrev pub NumberIs : Option (Taken ℕ) → List ℕ → Answer NumberItem → Type 0
 NumberIs o s None = o ≡ none
 NumberIs o s (Some n) = (o ≡ some (taken n.value n.separator (drop n.next s))) × (n.next ≤ length s)
-
--- m, t and p by their order: the rule of each, the letter of its name, and the numbers with one of them found
-abbrev pub rule_at : Profile → ℕ → NumberRule
-rule_at r zero = r.m
-rule_at r (suc zero) = r.t
-rule_at r (suc (suc k)) = r.p
-
-abbrev pub letter_at : ℕ → ℕ
-letter_at zero = 109
-letter_at (suc zero) = 116
-letter_at (suc (suc k)) = 112
-
-abbrev pub with_number : Costs → ℕ → ℕ → Costs
-with_number c zero n = record { m = n; t = c.t; p = c.p }
-with_number c (suc zero) n = record { m = c.m; t = n; p = c.p }
-with_number c (suc (suc k)) n = record { m = c.m; t = c.t; p = n }
 
 abbrev pub VersionIs : Option (Taken Version) → List ℕ → Answer VersionItem → Type 0
 VersionIs o s None = o ≡ none
