@@ -10,13 +10,10 @@ pub fn begins(s: &[u8], at: usize, separator: u8, name: &[u8]) -> bool
     s.get(at) == Some(&separator) && s[at + 1..].starts_with(name)
 }
 
-// The same for a name of one letter and `=`, as the numbers have: three comparisons and no loop.
+// The same for a name of one letter and `=`, as the numbers have.
 pub fn begins_letter(s: &[u8], at: usize, separator: u8, letter: u8) -> bool
     requires { at ≤ length s.now }
     ensures { result ≡ starts_with (separator ∷ letter ∷ equals ∷ []) (drop at s.now) }
 {
-    if s.len() - at < 3 {
-        return false;
-    }
-    (s[at] == separator) & (s[at + 1] == letter) & (s[at + 2] == b'=')
+    s[at..].starts_with(&[separator, letter, b'='])
 }

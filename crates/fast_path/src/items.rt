@@ -34,10 +34,7 @@ fn written_number(rule: NumberRule, s: &[u8], at: usize) -> Option<NumberItem>
     ensures { NumberIs (and_then (leading_number (drop at s.now)) (written_number rule)) s.now result }
 {
     let n = number(s, at)?;
-    if !in_range(rule, n.value) {
-        return None;
-    }
-    if is_omitted(rule, n.value) {
+    if !in_range(rule, n.value) || is_omitted(rule, n.value) {
         return None;
     }
     Some(NumberItem {
@@ -95,10 +92,7 @@ fn written_bytes(
         return None;
     }
     let n = run.end - from;
-    if n == 0 {
-        return None;
-    }
-    if !is_size(rule, Bytes(n)) {
+    if n == 0 || !is_size(rule, Bytes(n)) {
         return None;
     }
     Some(BytesItem {

@@ -4,7 +4,6 @@ ghost use Rattle.grammar.specs.Bytes.{dollar};
 ghost use Rattle.fast_path.specs.Walk.{pair_in};
 ghost use Rattle.fast_path.specs.WalkSteps.{most, TwoAre};
 
-use crate::begin::begins;
 use crate::items::{bytes_item, piece_item};
 use table::limits::BytesRule;
 
@@ -55,14 +54,14 @@ pub fn two_keys(
     requires { (at ≤ length s.now) × (from + most a + most b ≤ length out.old) }
     ensures { TwoAre (pair_in a a_name.now b b_name.now false separator (drop at s.now)) (most a + most b) s.now out.old from out.new result }
 {
-    if begins(s, at, separator, b"") {
-        return two_items(a, a_name, b, b_name, s, at, separator, out, from);
+    if s.get(at) != Some(&separator) {
+        return Some(Two {
+            next: at,
+            middle: from,
+            end: from,
+        });
     }
-    Some(Two {
-        next: at,
-        middle: from,
-        end: from,
-    })
+    two_items(a, a_name, b, b_name, s, at, separator, out, from)
 }
 
 // Salt and output, each with its own `$`.

@@ -33,10 +33,7 @@ pub struct VersionItem {
 fn allowed(versions: Versions, version: Version, next: usize) -> Option<VersionItem>
     ensures { (s : List ℕ) → next ≤ length s → VersionIs (allowed_version (listed versions) version (drop next s)) s result }
 {
-    if !version_allowed(versions, version) {
-        return None;
-    }
-    Some(VersionItem { version, next })
+    version_allowed(versions, version).then_some(VersionItem { version, next })
 }
 
 fn version_item(versions: Versions, s: &[u8], at: usize) -> Option<VersionItem>
@@ -63,12 +60,12 @@ fn kind_for(salt: usize, output: usize) -> u8
     ensures { result ≡ kind_for salt output }
 {
     if output != 0 {
-        return 3;
+        3
+    } else if salt != 0 {
+        2
+    } else {
+        1
     }
-    if salt != 0 {
-        return 2;
-    }
-    1
 }
 
 // The answer for fields whose byte strings end at these places in their buffer.
@@ -143,10 +140,7 @@ pub fn walk_string(s: &[u8], out: &mut [u8]) -> Option<Contents>
     requires { buffer_length ≤ length out.old }
     ensures { FoundIn (walked edition_two s.now) out.old out.new result }
 {
-    if LONGEST_PERMITTED < s.len() {
-        return None;
-    }
-    if s.first() != Some(&b'$') {
+    if LONGEST_PERMITTED < s.len() || s.first() != Some(&b'$') {
         return None;
     }
     let end = next_at(s, 1, b'$');

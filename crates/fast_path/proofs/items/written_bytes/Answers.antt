@@ -6,6 +6,7 @@ use Rattle.b64.specs.declared.decoder.Run.{Run}
 use Rattle.b64.proofs.RunLaws.{Ran, ran}
 use Rattle.fast_path.proofs.StringLaws.{bytes_no, bytes-empty, bytes_unsized, bytes-sized}
 use Rattle.fast_path.proofs.items.written_bytes.Goals as goal
+use Rattle.fast_path.proofs.items.written_bytes.Goals.{then-n-eq0-via-then-n-eq0, then-n-eq0-via-else-n-eq0+then-not-is_size}
 
 -- a run that is not incomplete is a canonical text whose bytes fit
 run_ran : (s : List ℕ) (at : ℕ) (out₀ : List ℕ) (from : ℕ) (out : List ℕ) (r : Run) → RunGives s at out₀ from out r → not r.complete ≡ false → Ran s at out₀ from out r.next r.end
@@ -19,13 +20,11 @@ returns-then-not-run c =
 pub returns-then-n-eq0 : goal.returns-then-n-eq0
 returns-then-n-eq0 c =
     let a = c.args in
-    bytes-empty a.rule a.s.now a.at a.out.now a.from _ _ _ (run_ran a.s.now a.at a.out.now a.from _ _ c.decode_run-run.ensures c.if-not-run.false) c.if-n-eq0.true
-
-pub returns-then-not-is_size : goal.returns-then-not-is_size
-returns-then-not-is_size c =
-    let a = c.args in
-    bytes_unsized a.rule a.s.now a.at a.out.now a.from _ _ _ (run_ran a.s.now a.at a.out.now a.from _ _ c.decode_run-run.ensures c.if-not-run.false)
-    (sym c.is_size.ensures ∙ c.if-not-is_size.true)
+    let k = run_ran a.s.now a.at a.out.now a.from _ _ c.decode_run-run.ensures c.if-not-run.false in
+    elim c.then-n-eq0.branch [
+      | then-n-eq0-via-then-n-eq0 w ↦ bytes-empty a.rule a.s.now a.at a.out.now a.from _ _ _ k w.if-n-eq0.true
+      | then-n-eq0-via-else-n-eq0+then-not-is_size w ↦ bytes_unsized a.rule a.s.now a.at a.out.now a.from _ _ _ k (sym w.is_size.ensures ∙ w.if-not-is_size.true)
+    ]
 
 pub returns : goal.returns
 returns c =
