@@ -1,11 +1,10 @@
 // One item of a string after its separator and its name, or left out: a number, a byte string.
-ghost use Rattle.std.specs.Prelude.{ℕ, ◌+◌, ◌≤◌, List, [], ◌∷◌, length, drop};
+ghost use Rattle.std.specs.Prelude.{ℕ, ◌+◌, ◌≤◌, List, length, drop};
 ghost use Rattle.text.specs.Text.{and_then};
-ghost use Rattle.grammar.specs.Bytes.{dollar, equals};
 ghost use Rattle.fast_path.specs.Walk.{leading_number, written_number, omitted_number, number_in, written_bytes, bytes_in};
 ghost use Rattle.fast_path.specs.WalkSteps.{NumberIs, most, BytesAre};
 
-use crate::begin::{begins, begins_letter};
+use crate::begin::begins;
 use crate::leading_number::number;
 use b64::decoder::decode_run;
 use table::bounds::{in_range, is_size};
@@ -58,20 +57,20 @@ fn omitted_number(rule: NumberRule, at: usize, separator: u8) -> Option<NumberIt
     })
 }
 
-// A number after its separator and its name, one letter and `=`; or left out. Inlined into its three places: calls cost 150 instructions a string more.
+// A number after its separator and its name, or left out.
 #[inline(always)]
 pub fn number_item(
     rule: NumberRule,
-    letter: u8,
+    name: &[u8],
     s: &[u8],
     at: usize,
     separator: u8,
 ) -> Option<NumberItem>
     requires { at ≤ length s.now }
-    ensures { NumberIs (number_in rule (letter ∷ equals ∷ []) separator (drop at s.now)) s.now result }
+    ensures { NumberIs (number_in rule name.now separator (drop at s.now)) s.now result }
 {
-    if begins_letter(s, at, separator, letter) {
-        return written_number(rule, s, at + 3);
+    if begins(s, at, separator, name) {
+        return written_number(rule, s, at + 1 + name.len());
     }
     omitted_number(rule, at, separator)
 }
@@ -102,28 +101,8 @@ fn written_bytes(
     })
 }
 
-// A byte string that is a piece, after its `$`, or none: no name is compared.
-pub fn piece_item(
-    rule: BytesRule,
-    s: &[u8],
-    at: usize,
-    out: &mut [u8],
-    from: usize,
-) -> Option<BytesItem>
-    requires { (at ≤ length s.now) × (from + most rule ≤ length out.old) }
-    ensures { BytesAre (bytes_in rule [] dollar (drop at s.now)) (most rule) s.now out.old from out.new result }
-{
-    if s.get(at) != Some(&b'$') {
-        return Some(BytesItem {
-            next: at,
-            end: from,
-            separator: b'$',
-        });
-    }
-    written_bytes(rule, s, at + 1, out, from)
-}
-
 // A byte string after its separator and its name, or none.
+#[inline(always)]
 pub fn bytes_item(
     rule: BytesRule,
     name: &[u8],

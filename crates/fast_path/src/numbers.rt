@@ -22,9 +22,9 @@ pub fn numbers(column: Column, id: u8, version: Version, s: &[u8], at: usize) ->
     requires { at ≤ length s.now }
     ensures { HeadIs (numbers_in (profile_in column) id version (drop at s.now)) s.now result }
 {
-    let m = number_item(column.m, b'm', s, at, b'$')?;
-    let t = number_item(column.t, b't', s, m.next, m.separator)?;
-    let p = number_item(column.p, b'p', s, t.next, t.separator)?;
+    let m = number_item(column.m, b"m=", s, at, b'$')?;
+    let t = number_item(column.t, b"t=", s, m.next, m.separator)?;
+    let p = number_item(column.p, b"p=", s, t.next, t.separator)?;
     if memory_too_little(m.value, p.value) {
         return None;
     }

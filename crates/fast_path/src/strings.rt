@@ -4,7 +4,7 @@ ghost use Rattle.grammar.specs.Bytes.{dollar};
 ghost use Rattle.fast_path.specs.Walk.{pair_in};
 ghost use Rattle.fast_path.specs.WalkSteps.{most, TwoAre};
 
-use crate::items::{bytes_item, piece_item};
+use crate::items::bytes_item;
 use table::limits::BytesRule;
 
 // The place after two byte strings, and the places after the bytes of the first and of the second.
@@ -76,8 +76,8 @@ pub fn two_pieces(
     requires { (at ≤ length s.now) × (from + most a + most b ≤ length out.old) }
     ensures { TwoAre (pair_in a [] b [] true dollar (drop at s.now)) (most a + most b) s.now out.old from out.new result }
 {
-    let first = piece_item(a, s, at, out, from)?;
-    let second = piece_item(b, s, first.next, out, first.end)?;
+    let first = bytes_item(a, b"", s, at, b'$', out, from)?;
+    let second = bytes_item(b, b"", s, first.next, b'$', out, first.end)?;
     Some(Two {
         next: second.next,
         middle: first.end,

@@ -5,7 +5,7 @@ ghost use Rattle.table.specs.Columns.{listed, profile_in};
 ghost use Rattle.fast_path.specs.Walk.{taken, allowed as allowed_version, version_in, head_in, with_strings, fields_after_id, walked};
 ghost use Rattle.fast_path.specs.WalkSteps.{VersionIs, HeadIs, kind_for, contents_for, roomy, buffer_length, FoundIn};
 
-use crate::begin::begins_letter;
+use crate::begin::begins;
 use crate::contents::Contents;
 use crate::leading_number::number;
 use crate::numbers::{Head, numbers};
@@ -40,7 +40,7 @@ fn version_item(versions: Versions, s: &[u8], at: usize) -> Option<VersionItem>
     requires { at ≤ length s.now }
     ensures { VersionIs (version_in (listed versions) (drop at s.now)) s.now result }
 {
-    if begins_letter(s, at, b'$', b'v') {
+    if begins(s, at, b'$', b"v=") {
         let n = number(s, at + 3)?;
         return allowed(versions, Version::Number(n.value), n.next);
     }
