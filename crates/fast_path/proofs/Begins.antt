@@ -18,5 +18,8 @@ same_test (c ∷ l) [] = refl
 same_test (c ∷ l) (d ∷ t) = rw (same_test l t, eqb_flip c d)
 
 -- from a place to the end
+pub slice_from : (s : List ℕ) (at : ℕ) → take (length s - at) (drop at s) ≡ drop at s
+slice_from s at = take_all (length s - at) (drop at s) (omega (arith, length-drop at s))
+
 pub slice_starts : (s l : List ℕ) (at : ℕ) → slice.starts_with eqb (take (length s - at) (drop at s)) l ≡ starts_with l (drop at s)
-slice_starts s l at = rw (take_all (length s - at) (drop at s) (omega (arith, length-drop at s))) (same_test l (drop at s))
+slice_starts s l at = rw (slice_from s at) (same_test l (drop at s))

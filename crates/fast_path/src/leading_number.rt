@@ -32,11 +32,11 @@ pub fn number(s: &[u8], at: usize) -> Option<LeadingNumber>
         return None;
     }
     let mut n: u64 = 0;
-    for i in at..s.len() {
+    for (i, c) in s[at..].iter().enumerate() {
         // past 9 where the byte is no digit
-        let d = s[i].wrapping_sub(b'0');
+        let d = c.wrapping_sub(b'0');
         if 9 < d {
-            return finished(s, at, n, i);
+            return finished(s, at, n, at + i);
         }
         // one digit more would pass 2^32 - 1
         if 429496729 < n {

@@ -1,22 +1,45 @@
 -- `fast_path::leading_number::number` meets its contract. Assumes nothing.
-use Rattle.std.proofs.Common.{arith}
+use Rattle.std.proofs.Common.{◌≡◌, ℕ, ◌+◌, ◌-◌, List, length, get_or, take, drop, add-zero, arith, length-drop, get_or-drop}
 use Rattle.fast_path.proofs.LeadingNumbers.{other_byte, counting_start, counting_digit, counting_stop, counting_end, counting_large, numeral-past}
+use Rattle.fast_path.proofs.Begins.{slice_from}
 use Rattle.fast_path.proofs.leading_number.number.Goals as goal
 
 pub returns-then-s-at : goal.returns-then-s-at
 returns-then-s-at c = numeral-past c.args.s.now c.args.at c.if-s-at.true
 
-pub loop-i-init : goal.loop-i-init
-loop-i-init c = (omega arith, counting_start c.args.s.now c.args.at (omega arith))
+-- the bytes from the place on, by their own count
+module _ (s : List ℕ) (at : ℕ) where
+  item_count : length (take (length s - at) (drop at s)) ≡ length s - at
+  item_count = rw (slice_from s at) (length-drop at s)
 
-pub finished-requires-2 : goal.finished-requires-2
-finished-requires-2 c = (c.if-s-at.false, counting_end _ _ _ _ c.loop-i.invariant.1 c.loop-i-test.false)
+  item : (i : ℕ) → get_or (take (length s - at) (drop at s)) i 0 ≡ get_or s (at + i) 0
+  item i = rw (slice_from s at) (get_or-drop at s i 0)
+
+pub loop-i-init : goal.loop-i-init
+loop-i-init c = (omega arith, rw (add-zero) (counting_start c.args.s.now c.args.at (omega arith)))
 
 pub finished-requires : goal.finished-requires
-finished-requires c = (c.if-s-at.false, counting_stop _ _ _ _ c.loop-i.invariant.1 (other_byte _ (omega (arith, c.type_inv.s c.loop-i.i)) c.if-d-gt9.true))
+finished-requires c =
+    let a = c.args in
+    let e = item a.s.now a.at c.loop-i.i in
+    (c.if-s-at.false, counting_stop _ _ _ _ c.loop-i.invariant.1 (other_byte _ (omega (arith, c.type_inv.s (a.at + c.loop-i.i))) (rw e at c.if-d-gt9.true)))
 
 pub returns-then-n-gt429496729 : goal.returns-then-n-gt429496729
-returns-then-n-gt429496729 c = counting_large _ _ _ _ c.loop-i.invariant.1 c.loop-i-test.true (omega (arith, c.type_inv.s c.loop-i.i)) c.if-d-gt9.false c.if-n-gt429496729.true
+returns-then-n-gt429496729 c =
+    let a = c.args in
+    let e = item a.s.now a.at c.loop-i.i in
+    counting_large _ _ _ _ c.loop-i.invariant.1 (omega (arith, item_count a.s.now a.at)) (omega (arith, c.type_inv.s (a.at + c.loop-i.i))) (rw e at c.if-d-gt9.false)
+    c.if-n-gt429496729.true
 
 pub loop-i-preserved : goal.loop-i-preserved
-loop-i-preserved c = (omega arith, counting_digit _ _ _ _ c.loop-i.invariant.1 c.loop-i-test.true (omega (arith, c.type_inv.s c.loop-i.i)) _ c.from.ensures c.if-d-gt9.false)
+loop-i-preserved c =
+    let a = c.args in
+    let e = item a.s.now a.at c.loop-i.i in
+    let z : a.at + (c.loop-i.i + 1) ≡ a.at + c.loop-i.i + 1 = omega arith in (
+      omega arith,
+      rw z (counting_digit _ _ _ _ c.loop-i.invariant.1 (omega (arith, item_count a.s.now a.at)) (omega (arith, c.type_inv.s (a.at + c.loop-i.i))) _ (rw e at c.from.ensures)
+          (rw e at c.if-d-gt9.false)),
+    )
+
+pub finished-requires-2 : goal.finished-requires-2
+finished-requires-2 c = (c.if-s-at.false, counting_end _ _ _ _ c.loop-i.invariant.1 (omega (arith, item_count c.args.s.now c.args.at)))
