@@ -1,6 +1,6 @@
 -- The library's test of how a slice begins is the text's own.
 -- Assumes nothing.
-use Rattle.std.proofs.Common.{◌≡◌, ℕ, ◌+◌, ◌-◌, Bool, true, false, eqb, List, [], ◌∷◌, length, take, drop, take_all, sym, refl, ◌∙◌, arith, length-drop, eq-eqb, ne_eqb, eqb-true}
+use Rattle.std.proofs.Common.{◌≡◌, ℕ, ◌-◌, Bool, true, false, eqb, List, [], ◌∷◌, length, take, drop, take_all, sym, refl, ◌∙◌, arith, length-drop, eq-eqb, ne_eqb, eqb-true}
 use mathlib.Core.Bool.{true≢false}
 use Rattle.std.specs.List as slice
 use Rattle.text.specs.Text.{starts_with}

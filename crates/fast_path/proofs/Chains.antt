@@ -1,11 +1,11 @@
 -- The steps of the walk, one after the other: what each leaf finds makes up what the whole finds.
 -- Assumes nothing.
-use Rattle.std.proofs.Common.{◌≡◌, ℕ, zero, suc, ◌+◌, ◌-◌, ◌<◌, true, false, cond, not, List, [], ◌∷◌, length, get_or, take, drop, refl, ap, ◌∙◌, arith, drop-drop, ne_eqb}
+use Rattle.std.proofs.Common.{◌≡◌, ℕ, suc, ◌+◌, ◌-◌, ◌<◌, true, false, not, List, [], ◌∷◌, length, get_or, take, drop, refl, arith, drop-drop, ne_eqb}
 use mathlib.Core.Option.{Option, none, some}
 use Rattle.text.specs.Text.{text, find, next_at, starts_with, and_then}
 use Rattle.text.proofs.Tests.{is_true, is_false}
 use Rattle.text.proofs.Prefixes.{rest_at}
-use Rattle.table.specs.Limits.{Profile, memory_too_little, in_range, id_of, profile_of, is_omitted}
+use Rattle.table.specs.Limits.{Profile, in_range, id_of, profile_of, is_omitted}
 use Rattle.table.specs.declared.limits.NumberRule.{NumberRule}
 use Rattle.table.specs.declared.limits.BytesRule.{BytesRule}
 use Rattle.table.specs.declared.version.Version.{Version}

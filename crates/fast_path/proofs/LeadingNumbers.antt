@@ -1,6 +1,6 @@
 -- The digits at a place, counted one after the other.
 -- Assumes nothing.
-use Rattle.std.proofs.Common.{◌≡◌, ℕ, ◌+◌, ◌-◌, ◌*◌, ◌%◌, ◌^◌, ◌<◌, ◌≤◌, Bool, true, false, ◌&&◌, leb, List, [], ◌∷◌, length, get_or, drop, sym, refl, ap, ◌∙◌, add-zero, arith, length-drop, get_or-drop, drop-drop, eq-eqb, ne_eqb, le-leb, leb-true}
+use Rattle.std.proofs.Common.{◌≡◌, ℕ, ◌+◌, ◌-◌, ◌*◌, ◌%◌, ◌<◌, ◌≤◌, Bool, true, false, ◌&&◌, leb, List, [], ◌∷◌, length, get_or, drop, sym, refl, ap, ◌∙◌, add-zero, arith, length-drop, get_or-drop, drop-drop, eq-eqb, ne_eqb, le-leb, leb-true}
 use mathlib.Core.Bool.{and-false}
 use mathlib.Core.Option.{none, some}
 use borrow.Author.Tests.{lt-leb}
@@ -70,7 +70,7 @@ module _ (s : List ℕ) (at n i : ℕ) (k : Counting s at n i) where
       rw e at (counting_done (run_past is_digit s i h))
 
   -- one digit more makes it too large
-  pub counting_large : i < length s → get_or s i 0 < 256 → less48 (get_or s i 0) ≤ 9 → 429496729 < n → leading_number (drop at s) ≡ none
+  pub counting_large : i < length s → get_or s i 0 < 256 → less48 (get_or s i 0) ≤ 9 → largest32 < n * 10 + less48 (get_or s i 0) → leading_number (drop at s) ≡ none
   unfolding leading_number
   counting_large h b q l =
       let c = counting_digit h b (less48 (get_or s i 0)) refl q in
@@ -105,10 +105,6 @@ module _ (s : List ℕ) (at n next : ℕ) (h : at < length s) (k : Counted s at 
   numeral_zeros a e b =
       let x : length (digits_at s at) ≡ 0 → ⊥ = λ q. a (omega (arith, k.next_is)) in
       rw (← unsigned_zero (digits_at s at) x (first_at x ∙ e), ne_eqb (length (digits_at s at)) 1 (λ q. b (omega (arith, k.next_is))))
-
-  pub numeral_large : largest32 < n → leading_number (drop at s) ≡ none
-  unfolding leading_number
-  numeral_large l = rw (lt-leb (value (digits_at s at)) largest32 (omega (arith, k.number)), and-false)
 
   inside_next : next ≤ length s
   inside_next = omega (arith, k.next_is, run_length is_digit (drop at s), length-drop at s)

@@ -9,9 +9,9 @@ pub struct LeadingNumber {
     pub next: usize,
 }
 
-// All digits are counted: no leading zero, and at most 2^32 - 1.
-fn finished(s: &[u8], at: usize, n: u64, next: usize) -> Option<LeadingNumber>
-    requires { (at < length s.now) × Counted s.now at n next }
+// All digits are counted: at least one, and no leading zero.
+fn finished(s: &[u8], at: usize, value: u32, next: usize) -> Option<LeadingNumber>
+    requires { (at < length s.now) × Counted s.now at value next }
     ensures { LeadingNumberIs s.now at result }
 {
     if next == at {
@@ -20,29 +20,24 @@ fn finished(s: &[u8], at: usize, n: u64, next: usize) -> Option<LeadingNumber>
     if s[at] == b'0' && next != at + 1 {
         return None;
     }
-    let value = u32::try_from(n).ok()?;
     Some(LeadingNumber { value, next })
 }
 
-// The digits one after the other, while their number can still be one of 32 bits; none where no decimal of 32 bits stands there.
+// The digits one after the other, while their number has 32 bits; none where no decimal of 32 bits stands there.
 pub fn number(s: &[u8], at: usize) -> Option<LeadingNumber>
     ensures { LeadingNumberIs s.now at result }
 {
     if s.len() <= at {
         return None;
     }
-    let mut n: u64 = 0;
+    let mut n = 0u32;
     for (i, c) in s[at..].iter().enumerate() {
         // past 9 where the byte is no digit
         let d = c.wrapping_sub(b'0');
         if 9 < d {
             return finished(s, at, n, at + i);
         }
-        // one digit more would pass 2^32 - 1
-        if 429496729 < n {
-            return None;
-        }
-        n = n * 10 + u64::from(d);
+        n = n.checked_mul(10)?.checked_add(u32::from(d))?;
     }
     finished(s, at, n, s.len())
 }

@@ -15,8 +15,8 @@ pub struct Two {
     pub end: usize,
 }
 
-// Two byte strings, each after its separator and its name, or none.
-fn two_items(
+// Two byte strings among the parameters, each after its separator and its name, or none.
+pub fn two_keys(
     a: BytesRule,
     a_name: &[u8],
     b: BytesRule,
@@ -37,31 +37,6 @@ fn two_items(
         middle: first.end,
         end: second.end,
     })
-}
-
-// Two byte strings among the parameters. Where the separator doesn't stand there is neither: one test instead of two names.
-pub fn two_keys(
-    a: BytesRule,
-    a_name: &[u8],
-    b: BytesRule,
-    b_name: &[u8],
-    s: &[u8],
-    at: usize,
-    separator: u8,
-    out: &mut [u8],
-    from: usize,
-) -> Option<Two>
-    requires { (at ≤ length s.now) × (from + most a + most b ≤ length out.old) }
-    ensures { TwoAre (pair_in a a_name.now b b_name.now false separator (drop at s.now)) (most a + most b) s.now out.old from out.new result }
-{
-    if s.get(at) != Some(&separator) {
-        return Some(Two {
-            next: at,
-            middle: from,
-            end: from,
-        });
-    }
-    two_items(a, a_name, b, b_name, s, at, separator, out, from)
 }
 
 // Salt and output, each with its own `$`.
