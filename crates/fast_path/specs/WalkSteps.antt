@@ -1,5 +1,5 @@
 -- What the private steps of the walk promise each other: places in the string for the texts of the walk, and the bytes that they leave in a
--- buffer. Nothing here is a rule: no public contract cites it.
+-- buffer. Nothing here is a rule: no public contract cites it. `Answer` is the `Option` that a function gives, and `Option` the one of the texts.
 -- Assumes nothing.
 use Rattle.std.specs.Prelude.{◌≡◌, ℕ, ◌+◌, ◌≤◌, cond, List, ◌++◌, length, take, drop, ◌==◌, Option as Answer, Some, None}
 use Rattle.std.proofs.Math.Option.{Option, none, some}
