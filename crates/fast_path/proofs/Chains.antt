@@ -1,19 +1,17 @@
 -- The steps of the walk, one after the other: what each leaf finds makes up what the whole finds.
 -- Assumes nothing.
-use Rattle.std.proofs.Common.{◌≡◌, ℕ, zero, suc, ◌+◌, ◌-◌, ◌<◌, true, false, cond, not, List, [], ◌∷◌, length, get_or, take, drop, refl, ap, ◌∙◌, arith, drop-drop, ne_eqb}
+use Rattle.std.proofs.Common.{◌≡◌, ℕ, suc, ◌+◌, ◌-◌, ◌<◌, true, false, not, List, [], ◌∷◌, length, get_or, take, drop, refl, arith, drop-drop, ne_eqb}
 use mathlib.Core.Option.{Option, none, some}
 use Rattle.text.specs.Text.{text, find, next_at, starts_with, and_then}
 use Rattle.text.proofs.Tests.{is_true, is_false}
 use Rattle.text.proofs.Prefixes.{rest_at}
-use Rattle.table.specs.Limits.{Profile, memory_too_little, in_range, id_of, profile_of, is_omitted}
+use Rattle.table.specs.Limits.{Profile, in_range, id_of, profile_of, is_omitted}
 use Rattle.table.specs.declared.limits.NumberRule.{NumberRule}
 use Rattle.table.specs.declared.limits.BytesRule.{BytesRule}
 use Rattle.table.specs.declared.version.Version.{Version}
 use Rattle.table.specs.declared.version.Version.TheVariants.{Absent, Number}
 use Rattle.profile.specs.declared.fields.NumberFields.{NumberFields}
 use Rattle.fast_path.specs.Walk.{Taken, taken, leading_number, written_number, omitted_number, number_in, written_bytes, bytes_in, allowed, version_in, numbers_in, head_in, with_strings, fields_after_id, walked}
-use Rattle.fast_path.specs.WalkSteps.{rule_at, letter_at, with_number}
-use Rattle.fast_path.specs.declared.numbers.Costs.{Costs}
 
 -- ---- a number
 
@@ -64,69 +62,6 @@ module _ (vs s : List ℕ) (at : ℕ) where
   unfolding version_in
   version_absent e = rw e
 
--- ---- m, t and p
-
-module _ (r : Profile) (k : ℕ) (v : Version) where
-  -- all three are found
-  abbrev numbers_end : Costs → ℕ → List ℕ → Option (Taken NumberFields)
-  numbers_end c separator s =
-      cond (memory_too_little c.m c.p) none (some (taken (record { id = k; version = v; m = c.m; t = c.t; p = c.p }) separator s))
-
-  -- p is left, and t and p
-  abbrev numbers_last : Costs → ℕ → List ℕ → Option (Taken NumberFields)
-  numbers_last c separator s = and_then (number_in r.p (text "p=") separator s) (λ (x : Taken ℕ). numbers_end (with_number c 2 x.found) x.separator x.rest)
-
-  abbrev numbers_next : Costs → ℕ → List ℕ → Option (Taken NumberFields)
-  numbers_next c separator s = and_then (number_in r.t (text "t=") separator s) (λ (x : Taken ℕ). numbers_last (with_number c 1 x.found) x.separator x.rest)
-
-  -- what is left from the number at an index on
-  abbrev pub numbers_left : ℕ → Costs → ℕ → List ℕ → Option (Taken NumberFields)
-  numbers_left zero c separator s = and_then (number_in r.m (text "m=") separator s) (λ (x : Taken ℕ). numbers_next (with_number c 0 x.found) x.separator x.rest)
-  numbers_left (suc zero) c separator s = numbers_next c separator s
-  numbers_left (suc (suc zero)) c separator s = numbers_last c separator s
-  numbers_left (suc (suc (suc i))) c separator s = numbers_end c separator s
-
-  pub numbers_start : (c : Costs) (s : List ℕ) → numbers_left 0 c 36 s ≡ numbers_in r k v s
-  unfolding numbers_in
-  numbers_start c s = refl
-
-  module _ (c : Costs) (separator : ℕ) (s : List ℕ) where
-    pub no_number : (i : ℕ) → i < 3 → number_in (rule_at r i) (letter_at i ∷ 61 ∷ []) separator s ≡ none → numbers_left i c separator s ≡ none
-    no_number zero h e = rw e
-    no_number (suc zero) h e = rw e
-    no_number (suc (suc zero)) h e = rw e
-    no_number (suc (suc (suc i))) h e = absurd (omega arith)
-
-    pub next_number : (i : ℕ) → i < 3 → (n a : ℕ) (t : List ℕ) → number_in (rule_at r i) (letter_at i ∷ 61 ∷ []) separator s ≡ some (taken n a t)
-        → numbers_left i c separator s ≡ numbers_left (i + 1) (with_number c i n) a t
-    next_number zero h n a t e = rw e
-    next_number (suc zero) h n a t e = rw e
-    next_number (suc (suc zero)) h n a t e = rw e
-    next_number (suc (suc (suc i))) h n a t e = absurd (omega arith)
-
-    pub memory_too_little_lem : (i : ℕ) → i ≡ 3 → memory_too_little c.m c.p ≡ true → numbers_left i c separator s ≡ none
-    memory_too_little_lem i q h = ap (λ (j : ℕ). numbers_left j c separator s) q ∙ rw h
-
-    pub all_numbers : (i : ℕ) → i ≡ 3 → memory_too_little c.m c.p ≡ false
-        → numbers_left i c separator s ≡ some (taken (record { id = k; version = v; m = c.m; t = c.t; p = c.p }) separator s)
-    all_numbers i q h = ap (λ (j : ℕ). numbers_left j c separator s) q ∙ rw h
-
--- the number at an index past the second is p
-pub rule_last : (r : Profile) (i : ℕ) → (i ≡ 0 → ⊥) → (i ≡ 1 → ⊥) → r.p ≡ rule_at r i
-rule_last r zero a b = absurd (a refl)
-rule_last r (suc zero) a b = absurd (b refl)
-rule_last r (suc (suc i)) a b = refl
-
-pub letter-last : (i : ℕ) → (i ≡ 0 → ⊥) → (i ≡ 1 → ⊥) → 112 ≡ letter_at i
-letter-last zero a b = absurd (a refl)
-letter-last (suc zero) a b = absurd (b refl)
-letter-last (suc (suc i)) a b = refl
-
-pub number_last : (c : Costs) (i n : ℕ) → (i ≡ 0 → ⊥) → (i ≡ 1 → ⊥) → record { m = c.m; t = c.t; p = n } ≡ with_number c i n
-number_last c zero n a b = absurd (a refl)
-number_last c (suc zero) n a b = absurd (b refl)
-number_last c (suc (suc i)) n a b = refl
-
 -- ---- version and numbers
 
 module _ (r : Profile) (k : ℕ) (s : List ℕ) where
@@ -150,20 +85,16 @@ module _ (r : Profile) (k : ℕ) (s : List ℕ) where
     pub after_some : (n : Taken NumberFields) → head_in r k s ≡ some n → fields_after_id r k s ≡ with_strings r n
     after_some n q = rw (q, is_true r.known z)
 
-pub walked_empty : (e : List Profile) (s : List ℕ) → length s ≡ 0 → walked e s ≡ none
+-- no `$` stands first
+pub walked_other : (e : List Profile) (s : List ℕ) → (0 < length s → get_or s 0 0 ≡ 36 → ⊥) → walked e s ≡ none
 unfolding walked
-walked_empty e [] h = refl
-walked_empty e (c ∷ s) h = absurd (omega arith)
+walked_other e [] n = refl
+walked_other e (c ∷ s) n = rw (ne_eqb c 36 (n (omega arith)))
 
-pub walked_other : (e : List Profile) (s : List ℕ) → (length s ≡ 0 → ⊥) → (get_or s 0 0 ≡ 36 → ⊥) → walked e s ≡ none
-unfolding walked
-walked_other e [] h n = refl
-walked_other e (c ∷ s) h n = rw (ne_eqb c 36 n)
-
-pub walked_id : (e : List Profile) (s : List ℕ) (end : ℕ) → (length s ≡ 0 → ⊥) → get_or s 0 0 ≡ 36 → end ≡ next_at 36 s 1
+pub walked_id : (e : List Profile) (s : List ℕ) (end : ℕ) → 0 < length s → get_or s 0 0 ≡ 36 → end ≡ next_at 36 s 1
     → let k = id_of e (take (end - 1) (drop 1 s)) in walked e s ≡ fields_after_id (profile_of e k) k (drop end s)
 unfolding walked
-walked_id e [] end h n q = absurd (h refl)
+walked_id e [] end h n q = absurd (omega arith)
 walked_id e (c ∷ s) end h n q =
     let a : end - 1 ≡ find 36 s = omega arith in
     let b : end ≡ suc (find 36 s) = omega arith in

@@ -1,6 +1,6 @@
 -- The digits at a place, counted one after the other.
 -- Assumes nothing.
-use Rattle.std.proofs.Common.{◌≡◌, ℕ, ◌+◌, ◌-◌, ◌*◌, ◌%◌, ◌^◌, ◌<◌, ◌≤◌, Bool, true, false, ◌&&◌, leb, List, [], ◌∷◌, length, get_or, drop, sym, refl, ap, ◌∙◌, add-zero, arith, length-drop, get_or-drop, drop-drop, eq-eqb, ne_eqb, le-leb, leb-true}
+use Rattle.std.proofs.Common.{◌≡◌, ℕ, ◌+◌, ◌-◌, ◌*◌, ◌%◌, ◌<◌, ◌≤◌, Bool, true, false, ◌&&◌, leb, List, [], ◌∷◌, length, get_or, drop, sym, refl, ap, ◌∙◌, add-zero, arith, length-drop, get_or-drop, drop-drop, eq-eqb, ne_eqb, le-leb, leb-true}
 use mathlib.Core.Bool.{and-false}
 use mathlib.Core.Option.{none, some}
 use borrow.Author.Tests.{lt-leb}
@@ -16,17 +16,17 @@ no_digit : is_digit 0 ≡ false
 unfolding is_digit
 no_digit = refl
 
--- d is the byte c less 48, wrapped
-abbrev pub Less48 : ℕ → ℕ → Type 0
-Less48 c d = (d + 48) % 2 ^ 8 ≡ c
+-- the byte c less 48, wrapped
+abbrev pub less48 : ℕ → ℕ
+less48 c = (c + 208) % 256
 
-digit_in : (c d : ℕ) → Less48 c d → d ≤ 9 → is_digit c ≡ true
+digit_in : (c : ℕ) → c < 256 → less48 c ≤ 9 → is_digit c ≡ true
 unfolding is_digit
-digit_in c d e h = to_within 48 57 c (omega arith) (omega arith)
+digit_in c b h = to_within 48 57 c (omega arith) (omega arith)
 
-pub other_byte : (c d : ℕ) → Less48 c d → d < 256 → 9 < d → is_digit c ≡ false
+pub other_byte : (c : ℕ) → c < 256 → 9 < less48 c → is_digit c ≡ false
 unfolding is_digit
-other_byte c d e b h = go (leb 48 c) refl
+other_byte c b h = go (leb 48 c) refl
   where
     go : (t : Bool) → leb 48 c ≡ t → (t && leb c 57) ≡ false
     go true q = let k : 48 ≤ c = leb-true 48 c q in lt-leb c 57 (omega arith)
@@ -44,10 +44,10 @@ unfolding value
 counting_start s at h = record { behind = omega arith; inside = h; number_left = refl; length_left = refl }
 
 module _ (s : List ℕ) (at n i : ℕ) (k : Counting s at n i) where
-  pub counting_digit : i < length s → (d : ℕ) → Less48 (get_or s i 0) d → d ≤ 9 → Counting s at (n * 10 + d) (i + 1)
+  pub counting_digit : i < length s → get_or s i 0 < 256 → (d : ℕ) → d ≡ less48 (get_or s i 0) → less48 (get_or s i 0) ≤ 9 → Counting s at (n * 10 + d) (i + 1)
   unfolding value_from
-  counting_digit h d e q =
-      let g : digits_at s i ≡ get_or s i 0 ∷ digits_at s (i + 1) = run_go is_digit no_digit s i (digit_in (get_or s i 0) d e q) in
+  counting_digit h b d e q =
+      let g : digits_at s i ≡ get_or s i 0 ∷ digits_at s (i + 1) = run_go is_digit no_digit s i (digit_in (get_or s i 0) b q) in
       let z : get_or s i 0 - 48 ≡ d = omega arith in
       record {
         behind = omega (arith, k.behind);
@@ -64,15 +64,17 @@ module _ (s : List ℕ) (at n i : ℕ) (k : Counting s at n i) where
   pub counting_stop : is_digit (get_or s i 0) ≡ false → Counted s at n i
   counting_stop e = counting_done (run_stop is_digit no_digit s i e)
 
-  pub counting_end : length s ≤ i → Counted s at n i
-  counting_end h = counting_done (run_past is_digit s i h)
+  pub counting_end : length s ≤ i → Counted s at n (length s)
+  counting_end h =
+      let e : i ≡ length s = omega (arith, k.inside) in
+      rw e at (counting_done (run_past is_digit s i h))
 
   -- one digit more makes it too large
-  pub counting_large : i < length s → (d : ℕ) → Less48 (get_or s i 0) d → d ≤ 9 → 429496729 < n → leading_number (drop at s) ≡ none
+  pub counting_large : i < length s → get_or s i 0 < 256 → less48 (get_or s i 0) ≤ 9 → largest32 < n * 10 + less48 (get_or s i 0) → leading_number (drop at s) ≡ none
   unfolding leading_number
-  counting_large h d e q l =
-      let c = counting_digit h d e q in
-      let v = value_grows (digits_at s (i + 1)) (n * 10 + d) in
+  counting_large h b q l =
+      let c = counting_digit h b (less48 (get_or s i 0)) refl q in
+      let v = value_grows (digits_at s (i + 1)) (n * 10 + less48 (get_or s i 0)) in
       let w = c.number_left in
       let b : largest32 < value (digits_at s at) = omega arith in
       rw (lt-leb (value (digits_at s at)) largest32 b, and-false)
@@ -104,10 +106,6 @@ module _ (s : List ℕ) (at n next : ℕ) (h : at < length s) (k : Counted s at 
       let x : length (digits_at s at) ≡ 0 → ⊥ = λ q. a (omega (arith, k.next_is)) in
       rw (← unsigned_zero (digits_at s at) x (first_at x ∙ e), ne_eqb (length (digits_at s at)) 1 (λ q. b (omega (arith, k.next_is))))
 
-  pub numeral_large : largest32 < n → leading_number (drop at s) ≡ none
-  unfolding leading_number
-  numeral_large l = rw (lt-leb (value (digits_at s at)) largest32 (omega (arith, k.number)), and-false)
-
   inside_next : next ≤ length s
   inside_next = omega (arith, k.next_is, run_length is_digit (drop at s), length-drop at s)
 
@@ -116,12 +114,12 @@ module _ (s : List ℕ) (at n next : ℕ) (h : at < length s) (k : Counted s at 
   found_at u l =
       (rw (u, le-leb (value (digits_at s at)) largest32 (omega (arith, k.number)), k.number, k.next_is, drop-drop), inside_next)
 
-  pub numeral-zero : (next ≡ at → ⊥) → get_or s at 0 ≡ 48 → next ≡ at + 1 → (leading_number (drop at s) ≡ some (0, drop next s)) × (next ≤ length s)
+  pub numeral-zero : (next ≡ at → ⊥) → get_or s at 0 ≡ 48 → next ≡ at + 1 → (leading_number (drop at s) ≡ some (n, drop next s)) × (next ≤ length s)
   numeral-zero a e b =
       let x : length (digits_at s at) ≡ 0 → ⊥ = λ q. a (omega (arith, k.next_is)) in
       let l : length (digits_at s at) ≡ 1 = omega (arith, k.next_is) in
       let v : n ≡ 0 = k.number ∙ value-one (digits_at s at) l (first_at x ∙ e) in
-      rw v at (found_at (sym (unsigned_zero (digits_at s at) x (first_at x ∙ e)) ∙ eq-eqb (length (digits_at s at)) 1 l) (omega arith))
+      found_at (sym (unsigned_zero (digits_at s at) x (first_at x ∙ e)) ∙ eq-eqb (length (digits_at s at)) 1 l) (omega arith)
 
   pub numeral_is : (next ≡ at → ⊥) → (get_or s at 0 ≡ 48 → ⊥) → n ≤ largest32 → (leading_number (drop at s) ≡ some (n, drop next s)) × (next ≤ length s)
   numeral_is a e l =

@@ -1,4 +1,5 @@
 pub mod LeadingNumbers
+pub mod Begins
 pub mod Chains
 pub mod StringLaws
 pub mod Closed

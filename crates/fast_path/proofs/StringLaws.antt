@@ -11,7 +11,6 @@ use Rattle.text.proofs.Tests.{from_within}
 use Rattle.text.proofs.Table.{always}
 use Rattle.text.proofs.Over.{over-nil, length_over, over_after}
 use Rattle.text.proofs.Runs.{run_length}
-use Rattle.text.proofs.Starts.{starts_first}
 use Rattle.text.proofs.Lists.{length-empty, length_filled}
 use Rattle.b64.specs.B64.{in_alphabet, canonical, decode}
 use Rattle.b64.specs.Runs.{run_at, is_complete}
@@ -133,16 +132,6 @@ module _ (a : BytesRule) (a-name : List ℕ) (b : BytesRule) (b-name : List ℕ)
           end_is = y.end_is;
           stored = over_after out₀ out₁ out₂ from middle x.bytes y.bytes h x.stored x.end_is y.stored;
         }
-
--- neither stands there
-pub no_strings : (a : BytesRule) (a-name : List ℕ) (b : BytesRule) (b-name : List ℕ) (separator : ℕ) (s : List ℕ) (at : ℕ) (out : List ℕ) (from : ℕ)
-    → at ≤ length s → from ≤ length out → starts_with (separator ∷ []) (drop at s) ≡ false
-    → StoredTwo (pair_in a a-name b b-name false separator (drop at s)) (most a + most b) s out from out at from from
-no_strings a a-name b b-name separator s at out from h f e =
-    both_strings a a-name b b-name false separator s at out from out at from separator
-    (bytes-none a a-name separator s at out from h (starts_first separator a-name (drop at s) e))
-    separator refl f out at from separator
-    (bytes-none b b-name separator s at out from h (starts_first separator b-name (drop at s) e))
 
 -- ---- all four
 

@@ -1,14 +1,13 @@
 -- What the private steps of the walk promise each other: places in the string for the texts of the walk, and the bytes that they leave in a
--- buffer. Nothing here is a rule: no public contract cites it.
+-- buffer. Nothing here is a rule: no public contract cites it. `Answer` is the `Option` that a function gives, and `Option` the one of the texts.
 -- Assumes nothing.
-use Rattle.std.specs.Prelude.{◌≡◌, ℕ, zero, suc, ◌+◌, ◌≤◌, cond, List, ◌++◌, length, take, drop, ◌==◌}
+use Rattle.std.specs.Prelude.{◌≡◌, ℕ, ◌+◌, ◌≤◌, cond, List, ◌++◌, length, take, drop, ◌==◌, Option as Answer, Some, None}
 use Rattle.std.proofs.Math.Option.{Option, none, some}
 use Rattle.text.specs.Place.{over, put}
 use Rattle.text.specs.Text.{run}
 use Rattle.decimal.specs.Decimal.{is_digit, value}
 use Rattle.grammar.specs.Bytes.{dollar}
 use Rattle.table.specs.Limits.{Profile}
-use Rattle.table.specs.declared.limits.NumberRule.{NumberRule}
 use Rattle.table.specs.declared.limits.BytesRule.{BytesRule}
 use Rattle.table.specs.declared.limits.BytesRule.TheVariants.{Sized, Forbidden}
 use Rattle.table.specs.declared.version.Version.{Version}
@@ -18,20 +17,11 @@ use Rattle.fast_path.specs.Contents.{joined_bytes, refused_contents}
 use Rattle.fast_path.specs.Walk.{Taken, taken, leading_number, Pair}
 use Rattle.fast_path.specs.declared.contents.Contents.{Contents}
 use Rattle.fast_path.specs.declared.leading_number.LeadingNumber.{LeadingNumber}
-use Rattle.fast_path.specs.declared.leading_number.LeadingNumber.TheVariants.{No as LeadingNumber-as-No, Is as LeadingNumber-as-Is}
 use Rattle.fast_path.specs.declared.items.NumberItem.{NumberItem}
-use Rattle.fast_path.specs.declared.items.NumberItem.TheVariants.{No as NumberItem-as-No, Is as NumberItem-as-Is}
 use Rattle.fast_path.specs.declared.items.BytesItem.{BytesItem}
-use Rattle.fast_path.specs.declared.items.BytesItem.TheVariants.{No as BytesItem-as-No, To as BytesItem-as-To}
 use Rattle.fast_path.specs.declared.strings.Two.{Two}
-use Rattle.fast_path.specs.declared.strings.Two.TheVariants.{No as Two-as-No, To as Two-as-To}
 use Rattle.fast_path.specs.declared.walk.VersionItem.{VersionItem}
-use Rattle.fast_path.specs.declared.walk.VersionItem.TheVariants.{No as VersionItem-as-No, Is as VersionItem-as-Is}
-use Rattle.fast_path.specs.declared.numbers.Costs.{Costs}
 use Rattle.fast_path.specs.declared.numbers.Head.{Head}
-use Rattle.fast_path.specs.declared.numbers.Head.TheVariants.{No as Head-as-No, Is as Head-as-Is}
-use Rattle.fast_path.specs.declared.walk.Walk.{Walk}
-use Rattle.fast_path.specs.declared.walk.Walk.TheVariants.{Nothing, Found}
 
 -- ---- numbers
 
@@ -44,37 +34,21 @@ pub record Counted (s : List ℕ) (at n next : ℕ) : Type 0 where
   pub number : n ≡ value (digits_at s at)
   pub next_is : next ≡ at + length (digits_at s at)
 
-abbrev pub LeadingNumberIs : List ℕ → ℕ → LeadingNumber → Type 0
-LeadingNumberIs s at LeadingNumber-as-No = leading_number (drop at s) ≡ none
-LeadingNumberIs s at (LeadingNumber-as-Is n next) = (leading_number (drop at s) ≡ some (n, drop next s)) × (next ≤ length s)
+abbrev pub LeadingNumberIs : List ℕ → ℕ → Answer LeadingNumber → Type 0
+LeadingNumberIs s at None = leading_number (drop at s) ≡ none
+LeadingNumberIs s at (Some n) = (leading_number (drop at s) ≡ some (n.value, drop n.next s)) × (n.next ≤ length s)
 
-abbrev pub NumberIs : Option (Taken ℕ) → List ℕ → NumberItem → Type 0
-NumberIs o s NumberItem-as-No = o ≡ none
-NumberIs o s (NumberItem-as-Is n next separator) = (o ≡ some (taken n separator (drop next s))) × (next ≤ length s)
+abbrev pub NumberIs : Option (Taken ℕ) → List ℕ → Answer NumberItem → Type 0
+NumberIs o s None = o ≡ none
+NumberIs o s (Some n) = (o ≡ some (taken n.value n.separator (drop n.next s))) × (n.next ≤ length s)
 
--- m, t and p by their order: the rule of each, the letter of its name, and the numbers with one of them found
-abbrev pub rule_at : Profile → ℕ → NumberRule
-rule_at r zero = r.m
-rule_at r (suc zero) = r.t
-rule_at r (suc (suc k)) = r.p
+abbrev pub VersionIs : Option (Taken Version) → List ℕ → Answer VersionItem → Type 0
+VersionIs o s None = o ≡ none
+VersionIs o s (Some v) = (o ≡ some (taken v.version dollar (drop v.next s))) × (v.next ≤ length s)
 
-abbrev pub letter_at : ℕ → ℕ
-letter_at zero = 109
-letter_at (suc zero) = 116
-letter_at (suc (suc k)) = 112
-
-abbrev pub with_number : Costs → ℕ → ℕ → Costs
-with_number c zero n = record { m = n; t = c.t; p = c.p }
-with_number c (suc zero) n = record { m = c.m; t = n; p = c.p }
-with_number c (suc (suc k)) n = record { m = c.m; t = c.t; p = n }
-
-abbrev pub VersionIs : Option (Taken Version) → List ℕ → VersionItem → Type 0
-VersionIs o s VersionItem-as-No = o ≡ none
-VersionIs o s (VersionItem-as-Is v next) = (o ≡ some (taken v dollar (drop next s))) × (next ≤ length s)
-
-abbrev pub HeadIs : Option (Taken NumberFields) → List ℕ → Head → Type 0
-HeadIs o s Head-as-No = o ≡ none
-HeadIs o s (Head-as-Is f next separator) = (o ≡ some (taken f separator (drop next s))) × (next ≤ length s)
+abbrev pub HeadIs : Option (Taken NumberFields) → List ℕ → Answer Head → Type 0
+HeadIs o s None = o ≡ none
+HeadIs o s (Some h) = (o ≡ some (taken h.fields h.separator (drop h.next s))) × (h.next ≤ length s)
 
 -- ---- byte strings
 
@@ -92,9 +66,9 @@ pub record Stored (o : Option (Taken (List ℕ))) (high : ℕ) (s out₀ : List 
   pub end_is : end ≡ from + length bytes
   pub stored : out ≡ over out₀ from bytes
 
-abbrev pub BytesAre : Option (Taken (List ℕ)) → ℕ → List ℕ → List ℕ → ℕ → List ℕ → BytesItem → Type 0
-BytesAre o high s out₀ from out BytesItem-as-No = o ≡ none
-BytesAre o high s out₀ from out (BytesItem-as-To next end separator) = Stored o high s out₀ from out next end separator
+abbrev pub BytesAre : Option (Taken (List ℕ)) → ℕ → List ℕ → List ℕ → ℕ → List ℕ → Answer BytesItem → Type 0
+BytesAre o high s out₀ from out None = o ≡ none
+BytesAre o high s out₀ from out (Some b) = Stored o high s out₀ from out b.next b.end b.separator
 
 -- two byte strings were taken, one after the other
 pub record StoredTwo (o : Option (Taken Pair)) (high : ℕ) (s out₀ : List ℕ) (from : ℕ) (out : List ℕ) (next middle end : ℕ) : Type 0 where
@@ -107,9 +81,9 @@ pub record StoredTwo (o : Option (Taken Pair)) (high : ℕ) (s out₀ : List ℕ
   pub end_is : end ≡ middle + length pair.second
   pub stored : out ≡ over out₀ from (pair.first ++ pair.second)
 
-abbrev pub TwoAre : Option (Taken Pair) → ℕ → List ℕ → List ℕ → ℕ → List ℕ → Two → Type 0
-TwoAre o high s out₀ from out Two-as-No = o ≡ none
-TwoAre o high s out₀ from out (Two-as-To next middle end) = StoredTwo o high s out₀ from out next middle end
+abbrev pub TwoAre : Option (Taken Pair) → ℕ → List ℕ → List ℕ → ℕ → List ℕ → Answer Two → Type 0
+TwoAre o high s out₀ from out None = o ≡ none
+TwoAre o high s out₀ from out (Some t) = StoredTwo o high s out₀ from out t.next t.middle t.end
 
 -- ---- the whole
 
@@ -148,9 +122,9 @@ pub record StoredAll (o : Option FieldSet) (out₀ out : List ℕ) (c : Contents
   pub room : length (joined_bytes fields) ≤ length out₀
   pub stored : out ≡ over out₀ 0 (joined_bytes fields)
 
-abbrev pub FoundIn : Option FieldSet → List ℕ → List ℕ → Walk → Type 0
-FoundIn o out₀ out Nothing = o ≡ none
-FoundIn o out₀ out (Found c) = StoredAll o out₀ out c
+abbrev pub FoundIn : Option FieldSet → List ℕ → List ℕ → Answer Contents → Type 0
+FoundIn o out₀ out None = o ≡ none
+FoundIn o out₀ out (Some c) = StoredAll o out₀ out c
 
 -- ---- into the caller's buffer
 

@@ -1,46 +1,12 @@
 // Whether a separator and a name stand at a place.
-ghost use Rattle.std.specs.Prelude.{◌≡◌, ◌≤◌, [], ◌∷◌, length, drop};
+ghost use Rattle.std.specs.Prelude.{◌≡◌, ◌∷◌, drop};
 ghost use Rattle.text.specs.Text.{starts_with};
-ghost use Rattle.grammar.specs.Bytes.{equals};
 
-// Whether a name stands at a place.
-fn same_at(s: &[u8], at: usize, name: &[u8]) -> bool
-    requires { at ≤ length s.now }
-    ensures { result ≡ starts_with name.now (drop at s.now) }
-{
-    if s.len() - at < name.len() {
-        return false;
-    }
-    let mut i = 0;
-    while i < name.len() {
-        if s[at + i] != name[i] {
-            return false;
-        }
-        i += 1;
-    }
-    true
-}
-
-// Whether a separator stands at a place, and a name after it.
+// Whether a separator stands at a place, and a name after it. It is inlined, as the readers of an item are: they know the name, and calls cost
+// 150 instructions a string more.
+#[inline(always)]
 pub fn begins(s: &[u8], at: usize, separator: u8, name: &[u8]) -> bool
     ensures { result ≡ starts_with (separator ∷ name.now) (drop at s.now) }
 {
-    if s.len() <= at {
-        return false;
-    }
-    if s[at] != separator {
-        return false;
-    }
-    same_at(s, at + 1, name)
-}
-
-// The same for a name of one letter and `=`, as the numbers have: three comparisons and no loop.
-pub fn begins_letter(s: &[u8], at: usize, separator: u8, letter: u8) -> bool
-    requires { at ≤ length s.now }
-    ensures { result ≡ starts_with (separator ∷ letter ∷ equals ∷ []) (drop at s.now) }
-{
-    if s.len() - at < 3 {
-        return false;
-    }
-    (s[at] == separator) & (s[at + 1] == letter) & (s[at + 2] == b'=')
+    s.get(at) == Some(&separator) && s[at + 1..].starts_with(name)
 }

@@ -2,60 +2,42 @@
 ghost use Rattle.std.specs.Prelude.{◌≡◌, ◌<◌, length};
 ghost use Rattle.fast_path.specs.WalkSteps.{LeadingNumberIs, Counted};
 
-// The number, and the place after its digits; no decimal of 32 bits stands there otherwise.
+// A number, and the place after its digits.
 #[derive(Clone, Copy)]
-pub enum LeadingNumber {
-    No,
-    Is(u32, usize),
+pub struct LeadingNumber {
+    pub value: u32,
+    pub next: usize,
 }
 
-fn wide(x: u8) -> u64
-    ensures { result ≡ x }
-{
-    x as u64
-}
-
-// All digits are counted: no leading zero, and at most 2^32 - 1.
-fn finished(s: &[u8], at: usize, n: u64, next: usize) -> LeadingNumber
-    requires { (at < length s.now) × Counted s.now at n next }
+// All digits are counted: at least one, and no leading zero.
+fn finished(s: &[u8], at: usize, value: u32, next: usize) -> Option<LeadingNumber>
+    requires { (at < length s.now) × Counted s.now at value next }
     ensures { LeadingNumberIs s.now at result }
 {
     if next == at {
-        return LeadingNumber::No;
+        return None;
     }
-    if s[at] == b'0' {
-        if next == at + 1 {
-            return LeadingNumber::Is(0, next);
-        }
-        return LeadingNumber::No;
+    if s[at] == b'0' && next != at + 1 {
+        return None;
     }
-    if 4294967295 < n {
-        return LeadingNumber::No;
-    }
-    LeadingNumber::Is(n as u32, next)
+    Some(LeadingNumber { value, next })
 }
 
-// The digits one after the other, while their number can still be one of 32 bits.
-pub fn number(s: &[u8], at: usize) -> LeadingNumber
+// The digits one after the other, while their number has 32 bits; none where no decimal of 32 bits stands there.
+pub fn number(s: &[u8], at: usize) -> Option<LeadingNumber>
     ensures { LeadingNumberIs s.now at result }
 {
     if s.len() <= at {
-        return LeadingNumber::No;
+        return None;
     }
-    let mut n: u64 = 0;
-    let mut i = at;
-    while i < s.len() {
+    let mut n = 0u32;
+    for (i, c) in s[at..].iter().enumerate() {
         // past 9 where the byte is no digit
-        let d = std::num::wrapping_sub_u8(s[i], b'0');
+        let d = c.wrapping_sub(b'0');
         if 9 < d {
-            return finished(s, at, n, i);
+            return finished(s, at, n, at + i);
         }
-        // one digit more would pass 2^32 - 1
-        if 429496729 < n {
-            return LeadingNumber::No;
-        }
-        n = n * 10 + wide(d);
-        i += 1;
+        n = n.checked_mul(10)?.checked_add(u32::from(d))?;
     }
-    finished(s, at, n, i)
+    finished(s, at, n, s.len())
 }

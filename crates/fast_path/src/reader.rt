@@ -6,7 +6,7 @@ ghost use Rattle.fast_path.specs.Contents.{all_decoded, contents};
 ghost use Rattle.fast_path.specs.WalkSteps.{total, StoredIs};
 
 use crate::contents::Contents;
-use crate::walk::{BUFFER_LEN, Walk, walk_string};
+use crate::walk::{BUFFER_LEN, walk_string};
 use profile::fields::Reading;
 use text::place::write_text;
 
@@ -16,11 +16,8 @@ pub fn read(s: &[u8]) -> Reading
 {
     let mut out = [0u8; BUFFER_LEN];
     match walk_string(s, &mut out) {
-        Walk::Nothing => profile::reader::read(s),
-        Walk::Found(c) => {
-            let r = c.reading;
-            r
-        }
+        Some(c) => c.reading,
+        None => profile::reader::read(s),
     }
 }
 
@@ -44,10 +41,7 @@ pub fn read_all(s: &[u8], buf: &mut [u8], at: usize) -> Contents
 {
     let mut out = [0u8; BUFFER_LEN];
     match walk_string(s, &mut out) {
-        Walk::Nothing => {
-            let r = profile::reader::read(s);
-            Contents::refused(r.number)
-        }
-        Walk::Found(c) => store(c, &out, buf, at),
+        Some(c) => store(c, &out, buf, at),
+        None => Contents::refused(profile::reader::read(s).number),
     }
 }

@@ -4,44 +4,18 @@ ghost use Rattle.grammar.specs.Bytes.{dollar};
 ghost use Rattle.fast_path.specs.Walk.{pair_in};
 ghost use Rattle.fast_path.specs.WalkSteps.{most, TwoAre};
 
-use crate::begin::begins;
-use crate::items::{BytesItem, bytes_item, piece_item};
+use crate::items::bytes_item;
 use table::limits::BytesRule;
 
 // The place after two byte strings, and the places after the bytes of the first and of the second.
 #[derive(Clone, Copy)]
-pub enum Two {
-    No,
-    To(usize, usize, usize),
+pub struct Two {
+    pub next: usize,
+    pub middle: usize,
+    pub end: usize,
 }
 
-// Two byte strings, each after its separator and its name, or none.
-fn two_items(
-    a: BytesRule,
-    a_name: &[u8],
-    b: BytesRule,
-    b_name: &[u8],
-    s: &[u8],
-    at: usize,
-    separator: u8,
-    out: &mut [u8],
-    from: usize,
-) -> Two
-    requires { (at ≤ length s.now) × (from + most a + most b ≤ length out.old) }
-    ensures { TwoAre (pair_in a a_name.now b b_name.now false separator (drop at s.now)) (most a + most b) s.now out.old from out.new result }
-{
-    match bytes_item(a, a_name, s, at, separator, out, from) {
-        BytesItem::No => Two::No,
-        BytesItem::To(next, middle, then) => {
-            match bytes_item(b, b_name, s, next, then, out, middle) {
-                BytesItem::No => Two::No,
-                BytesItem::To(last, end, _) => Two::To(last, middle, end),
-            }
-        }
-    }
-}
-
-// Two byte strings among the parameters. Where the separator doesn't stand there is neither: one test instead of two names.
+// Two byte strings among the parameters, each after its separator and its name, or none.
 pub fn two_keys(
     a: BytesRule,
     a_name: &[u8],
@@ -52,14 +26,17 @@ pub fn two_keys(
     separator: u8,
     out: &mut [u8],
     from: usize,
-) -> Two
+) -> Option<Two>
     requires { (at ≤ length s.now) × (from + most a + most b ≤ length out.old) }
     ensures { TwoAre (pair_in a a_name.now b b_name.now false separator (drop at s.now)) (most a + most b) s.now out.old from out.new result }
 {
-    if begins(s, at, separator, b"") {
-        return two_items(a, a_name, b, b_name, s, at, separator, out, from);
-    }
-    Two::To(at, from, from)
+    let first = bytes_item(a, a_name, s, at, separator, out, from)?;
+    let second = bytes_item(b, b_name, s, first.next, first.separator, out, first.end)?;
+    Some(Two {
+        next: second.next,
+        middle: first.end,
+        end: second.end,
+    })
 }
 
 // Salt and output, each with its own `$`.
@@ -70,15 +47,15 @@ pub fn two_pieces(
     at: usize,
     out: &mut [u8],
     from: usize,
-) -> Two
+) -> Option<Two>
     requires { (at ≤ length s.now) × (from + most a + most b ≤ length out.old) }
     ensures { TwoAre (pair_in a [] b [] true dollar (drop at s.now)) (most a + most b) s.now out.old from out.new result }
 {
-    match piece_item(a, s, at, out, from) {
-        BytesItem::No => Two::No,
-        BytesItem::To(next, middle, _) => match piece_item(b, s, next, out, middle) {
-            BytesItem::No => Two::No,
-            BytesItem::To(last, end, _) => Two::To(last, middle, end),
-        },
-    }
+    let first = bytes_item(a, b"", s, at, b'$', out, from)?;
+    let second = bytes_item(b, b"", s, first.next, b'$', out, first.end)?;
+    Some(Two {
+        next: second.next,
+        middle: first.end,
+        end: second.end,
+    })
 }

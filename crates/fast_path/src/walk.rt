@@ -5,11 +5,11 @@ ghost use Rattle.table.specs.Columns.{listed, profile_in};
 ghost use Rattle.fast_path.specs.Walk.{taken, allowed as allowed_version, version_in, head_in, with_strings, fields_after_id, walked};
 ghost use Rattle.fast_path.specs.WalkSteps.{VersionIs, HeadIs, kind_for, contents_for, roomy, buffer_length, FoundIn};
 
-use crate::begin::begins_letter;
+use crate::begin::begins;
 use crate::contents::Contents;
-use crate::leading_number::{LeadingNumber, number};
+use crate::leading_number::number;
 use crate::numbers::{Head, numbers};
-use crate::strings::{Two, two_keys, two_pieces};
+use crate::strings::{two_keys, two_pieces};
 use profile::fields::{NumberFields, Reading};
 use table::bounds::version_allowed;
 use table::columns::column_of;
@@ -24,50 +24,35 @@ pub const BUFFER_LEN: usize = 152;
 
 // The version, and the place after it.
 #[derive(Clone, Copy)]
-pub enum VersionItem {
-    No,
-    Is(Version, usize),
-}
-
-// What the walk found; nothing where the string is no good one.
-#[derive(Clone, Copy)]
-pub enum Walk {
-    Nothing,
-    Found(Contents),
+pub struct VersionItem {
+    pub version: Version,
+    pub next: usize,
 }
 
 // A version, where the profile permits it.
-fn allowed(versions: Versions, version: Version, next: usize) -> VersionItem
+fn allowed(versions: Versions, version: Version, next: usize) -> Option<VersionItem>
     ensures { (s : List ℕ) → next ≤ length s → VersionIs (allowed_version (listed versions) version (drop next s)) s result }
 {
-    if version_allowed(versions, version) {
-        return VersionItem::Is(version, next);
-    }
-    VersionItem::No
+    version_allowed(versions, version).then_some(VersionItem { version, next })
 }
 
-fn version_item(versions: Versions, s: &[u8], at: usize) -> VersionItem
+fn version_item(versions: Versions, s: &[u8], at: usize) -> Option<VersionItem>
     requires { at ≤ length s.now }
     ensures { VersionIs (version_in (listed versions) (drop at s.now)) s.now result }
 {
-    if begins_letter(s, at, b'$', b'v') {
-        return match number(s, at + 3) {
-            LeadingNumber::No => VersionItem::No,
-            LeadingNumber::Is(n, next) => allowed(versions, Version::Number(n), next),
-        };
+    if begins(s, at, b'$', b"v=") {
+        let n = number(s, at + 3)?;
+        return allowed(versions, Version::Number(n.value), n.next);
     }
     allowed(versions, Version::Absent, at)
 }
 
-fn head_at(column: Column, id: u8, s: &[u8], at: usize) -> Head
+fn head_at(column: Column, id: u8, s: &[u8], at: usize) -> Option<Head>
     requires { at ≤ length s.now }
     ensures { HeadIs (head_in (profile_in column) id (drop at s.now)) s.now result }
 {
-    let versions = column.versions;
-    match version_item(versions, s, at) {
-        VersionItem::No => Head::No,
-        VersionItem::Is(version, next) => numbers(column, id, version, s, next),
-    }
+    let item = version_item(column.versions, s, at)?;
+    numbers(column, id, item.version, s, item.next)
 }
 
 // 1 a parameter string, 2 a salt string, 3 a hash string.
@@ -75,12 +60,12 @@ fn kind_for(salt: usize, output: usize) -> u8
     ensures { result ≡ kind_for salt output }
 {
     if output != 0 {
-        return 3;
+        3
+    } else if salt != 0 {
+        2
+    } else {
+        1
     }
-    if salt != 0 {
-        return 2;
-    }
-    1
 }
 
 // The answer for fields whose byte strings end at these places in their buffer.
@@ -115,58 +100,48 @@ fn with_strings(
     at: usize,
     separator: u8,
     out: &mut [u8],
-) -> Walk
+) -> Option<Contents>
     requires { (at ≤ length s.now) × (roomy (profile_in column) ≤ length out.old) }
     ensures { FoundIn (with_strings (profile_in column) (taken fields separator (drop at s.now))) out.old out.new result }
 {
-    let keyid = column.keyid;
-    let data = column.data;
-    let salt = column.salt;
-    let output = column.output;
-    match two_keys(keyid, b"keyid=", data, b"data=", s, at, separator, out, 0) {
-        Two::No => Walk::Nothing,
-        Two::To(next, k, d) => {
-            match two_pieces(salt, output, s, next, out, d) {
-                Two::No => Walk::Nothing,
-                Two::To(last, e, g) => {
-                    if last == s.len() {
-                        return Walk::Found(contents_for(fields, k, d, e, g));
-                    }
-                    Walk::Nothing
-                }
-            }
-        }
+    let keys = two_keys(
+        column.keyid,
+        b"keyid=",
+        column.data,
+        b"data=",
+        s,
+        at,
+        separator,
+        out,
+        0,
+    )?;
+    let hashes = two_pieces(column.salt, column.output, s, keys.next, out, keys.end)?;
+    if hashes.next != s.len() {
+        return None;
     }
+    Some(contents_for(fields, keys.middle, keys.end, hashes.middle, hashes.end))
 }
 
 // What stands after the id.
-fn after_id(column: Column, id: u8, s: &[u8], at: usize, out: &mut [u8]) -> Walk
+fn after_id(column: Column, id: u8, s: &[u8], at: usize, out: &mut [u8]) -> Option<Contents>
     requires { (at ≤ length s.now) × (roomy (profile_in column) ≤ length out.old) }
     ensures { FoundIn (fields_after_id (profile_in column) id (drop at s.now)) out.old out.new result }
 {
     if !column.known {
-        return Walk::Nothing;
+        return None;
     }
-    match head_at(column, id, s, at) {
-        Head::No => Walk::Nothing,
-        Head::Is(fields, next, separator) => with_strings(column, fields, s, next, separator, out),
-    }
+    let head = head_at(column, id, s, at)?;
+    with_strings(column, head.fields, s, head.next, head.separator, out)
 }
 
 // The fields of an accepted string, with their byte strings, one after the other, from the start of `out`. Of a string that is longer than any
 // permitted one nothing is read.
-pub fn walk_string(s: &[u8], out: &mut [u8]) -> Walk
+pub fn walk_string(s: &[u8], out: &mut [u8]) -> Option<Contents>
     requires { buffer_length ≤ length out.old }
     ensures { FoundIn (walked edition_two s.now) out.old out.new result }
 {
-    if s.len() == 0 {
-        return Walk::Nothing;
-    }
-    if LONGEST_PERMITTED < s.len() {
-        return Walk::Nothing;
-    }
-    if s[0] != b'$' {
-        return Walk::Nothing;
+    if LONGEST_PERMITTED < s.len() || s.first() != Some(&b'$') {
+        return None;
     }
     let end = next_at(s, 1, b'$');
     let id = id_number(&s[1..end]);

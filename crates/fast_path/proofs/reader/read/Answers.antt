@@ -2,7 +2,5 @@
 use Rattle.fast_path.proofs.Answers.{found_reading}
 use Rattle.fast_path.proofs.reader.read.Goals as goal
 
-pub returns-in-Found : goal.returns-in-Found
-returns-in-Found c =
-    let h = rw c.in-Found.is at c.walk_string.ensures in
-    found_reading _ _ _ _ h
+pub returns-in-Some : goal.returns-in-Some
+returns-in-Some c = found_reading _ _ _ _ c.in-Some.ensures

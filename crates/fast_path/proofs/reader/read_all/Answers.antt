@@ -2,13 +2,8 @@
 use Rattle.fast_path.proofs.Answers.{all-refused, all_found}
 use Rattle.fast_path.proofs.reader.read_all.Goals as goal
 
-pub returns-in-Nothing : goal.returns-in-Nothing
-returns-in-Nothing c =
-    let a = c.args in
-    all-refused a.s.now a.buf.now a.at (rw c.in-Nothing.is at c.walk_string.ensures) _ _ c.read-r.ensures c.refused.ensures
+pub returns-in-Some : goal.returns-in-Some
+returns-in-Some c = all_found c.args.s.now _ _ _ c.in-Some.ensures c.args.buf.now c.args.at _ _ c.store.ensures
 
-pub returns-in-Found : goal.returns-in-Found
-returns-in-Found c =
-    let a = c.args in
-    let h = rw c.in-Found.is at c.walk_string.ensures in
-    all_found a.s.now _ _ _ h a.buf.now a.at _ _ c.store.ensures
+pub returns-in-None : goal.returns-in-None
+returns-in-None c = all-refused c.args.s.now c.args.buf.now c.args.at c.in-None.ensures _ _ c.read.ensures c.refused.ensures

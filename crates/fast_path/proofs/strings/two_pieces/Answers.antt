@@ -4,22 +4,19 @@ use Rattle.grammar.specs.Bytes.{dollar}
 use Rattle.fast_path.proofs.StringLaws.{no_first, no_second, both_strings}
 use Rattle.fast_path.proofs.strings.two_pieces.Goals as goal
 
-pub returns-in-No : goal.returns-in-No
-returns-in-No c =
+pub returns-in_err-first : goal.returns-in_err-first
+returns-in_err-first c =
     let a = c.args in
-    no_first a.a [] a.b [] true dollar a.s.now a.at a.out.now a.from (rw c.in-No.is at c.piece_item.ensures)
+    rw c.from_residual.ensures (no_first a.a [] a.b [] true dollar a.s.now a.at a.out.now a.from c.in_err-first.ensures)
 
-pub returns-in-No-piece_item : goal.returns-in-No-piece_item
-returns-in-No-piece_item c =
+pub returns-in_err-second : goal.returns-in_err-second
+returns-in_err-second c =
     let a = c.args in
-    let h = rw c.in-To.is at c.piece_item.ensures in
-    no_second a.a [] a.b [] true dollar a.s.now a.at a.out.now a.from _ _ _ _ h _ refl
-    (rw c.in-No-piece_item.is at c.piece_item-in-To.ensures)
+    rw c.from_residual-in_err-second.ensures
+    (no_second a.a [] a.b [] true dollar a.s.now a.at a.out.now a.from _ _ _ _ c.in_ok-first.ensures _ refl c.in_err-second.ensures)
 
-pub returns-in-To-piece_item : goal.returns-in-To-piece_item
-returns-in-To-piece_item c =
+pub returns : goal.returns
+returns c =
     let a = c.args in
-    let h = rw c.in-To.is at c.piece_item.ensures in
-    let y = rw c.in-To-piece_item.is at c.piece_item-in-To.ensures in
-    both_strings a.a [] a.b [] true dollar a.s.now a.at a.out.now a.from _ _ _ _ h _ refl
-    (omega (arith, c.requires.1)) _ _ _ _ y
+    both_strings a.a [] a.b [] true dollar a.s.now a.at a.out.now a.from _ _ _ _ c.in_ok-first.ensures _ refl
+    (omega (arith, c.requires.1)) _ _ _ _ c.in_ok-second.ensures

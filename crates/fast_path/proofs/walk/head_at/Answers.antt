@@ -3,13 +3,8 @@ use Rattle.table.specs.Columns.{profile_in}
 use Rattle.fast_path.proofs.Chains.{head_none, head_some}
 use Rattle.fast_path.proofs.walk.head_at.Goals as goal
 
-pub returns-in-No : goal.returns-in-No
-returns-in-No c =
-    let a = c.args in
-    head_none (profile_in a.column) a.id _ (rw c.in-No.is at c.version_item.ensures)
+pub returns-in_err-item : goal.returns-in_err-item
+returns-in_err-item c = rw c.from_residual.ensures (head_none (profile_in c.args.column) c.args.id _ c.in_err-item.ensures)
 
-pub returns-in-Is : goal.returns-in-Is
-returns-in-Is c =
-    let a = c.args in
-    let h = rw c.in-Is.is at c.version_item.ensures in
-    rw (head_some (profile_in a.column) a.id _ _ _ _ h.0) c.numbers.ensures
+pub returns : goal.returns
+returns c = rw (head_some (profile_in c.args.column) c.args.id _ _ _ _ c.in_ok-item.ensures.0) c.numbers.ensures
