@@ -2,14 +2,15 @@
 -- Assumes nothing.
 use Prim.Native.Nat.{ℕ, zero, suc, ◌+◌, ◌-◌, ◌≤◌, ◌<◌, min}
 use mathlib.Core.Bool.{true}
-use mathlib.Core.List.{List, [], ◌∷◌}
-use mathlib.Core.Logic.{◌⊎◌, ⊎_elim}
+use mathlib.Core.List.{List, [], ◌∷◌, ◌++◌, append_assoc}
+use mathlib.Core.Logic.{◌⊎◌, inl, inr, ⊎_elim}
 use mathlib.Core.Path.{◌≡◌, refl, sym, ap, ◌∙◌}
 use native.Mathlib.Decide.{dec_le}
 use native.Mathlib.Omega.{arith}
 use lib.Dec.{leb}
 use lib.ListN.{length, take, drop, set, length-append, length-drop, length-take, length-set}
-use lib.Seq.{take-nil}
+use lib.Seq.{take-nil, take_all}
+use Rattle.std.proofs.lemmas.List.{take-append-drop, drop-append-le, length-take-le, length-map}
 use borrow.Author.Tests.{le-leb, lt-leb}
 use Rattle.text.specs.Text.{line_feed, next_at}
 use Rattle.text.specs.Place.{over}
@@ -17,7 +18,8 @@ use Rattle.text.proofs.Scanning.{find_from_le}
 use Rattle.text.proofs.Prefixes.{drop_min}
 use Rattle.text.proofs.Over.{over-nil, over-over, over-set}
 use Rattle.accounts.specs.Lines.{lines, lines_left, lines_text, line_answer}
-use Rattle.accounts.specs.Batches.{numbers_of, batch_count, place_after, judged, not_judged, batched}
+use Rattle.accounts.specs.Batches.{numbers_of, batch_count, place_after, BatchOutcome, batch_outcome, judged, not_judged, batched}
+use Rattle.accounts.specs.declared.batch.Batch.{Batch}
 use Rattle.accounts.proofs.TextLines.{none_left, line_and_left, some_left}
 
 -- ---- the place after some lines
@@ -73,11 +75,9 @@ place_end s from n h =
       | no k ↦ absurd (omega (arith, more_left s from n (omega arith)))
     ]
 
--- the same, by a limit that falls
-pub place-next : (s : List ℕ) (place e left : ℕ) → place < length s → e ≡ next_at line_feed s place → 0 < left → place_after s (e + 1) (left - 1) ≡ place_after s place left
-place-next s place e left h f l =
-    let q : suc (left - 1) ≡ left = omega arith in
-    sym (place_step s place e h f (left - 1)) ∙ ap (place_after s place) q
+-- the same, by how many are left
+pub place-next : (s : List ℕ) (place e left fewer : ℕ) → place < length s → e ≡ next_at line_feed s place → left ≡ suc fewer → place_after s (e + 1) fewer ≡ place_after s place left
+place-next s place e left fewer h f l = sym (place_step s place e h f fewer) ∙ ap (place_after s place) (sym l)
 
 -- no line more is wanted, or none is there
 pub place_stopped : (s : List ℕ) (place left : ℕ) → (left ≤ 0) ⊎ (length s ≤ place) → min place (length s) ≡ place_after s place left
@@ -110,6 +110,56 @@ pub batch_done : (s : List ℕ) (from limit : ℕ) (d : List ℕ) → batch_coun
 unfolding batched
 batch_done s from limit d h = rw (le-leb (batch_count s from limit) (length d) h)
 
+-- ---- a slice that holds no more answers than the limit
+
+-- the numbers of no more lines than there are answers, put into the first m of them
+over_part : (d u : List ℕ) (m : ℕ) → length u ≤ length (take m d) → over (take m d) 0 u ++ drop m d ≡ over d 0 u
+over_part d u m h =
+    append_assoc u (drop (0 + length u) (take m d)) (drop m d)
+    ∙ ap (λ (v : List ℕ). u ++ v) (sym (drop-append-le (0 + length u) (take m d) (drop m d) (omega arith)) ∙ ap (drop (0 + length u)) (take-append-drop m d))
+
+module _ (s : List ℕ) (from limit : ℕ) (d : List ℕ) (most : ℕ) (q : most ≡ min limit (length d)) (h : batch_count s from limit ≤ length d) where
+  part_size : length (take most d) ≡ most
+  part_size = length-take-le most d (omega arith)
+
+  -- the limit, or more than the lines there
+  enough : (most ≡ limit) ⊎ ((length (lines_left s from) ≤ most) × (most ≤ limit))
+  enough =
+      elim (dec_le limit most) [
+        | yes k ↦ inl (omega arith)
+        | no k ↦ inr (omega arith, omega arith)
+      ]
+
+  part_place : place_after s from most ≡ place_after s from limit
+  part_place =
+      ⊎_elim
+      (λ (e : most ≡ limit). ap (place_after s from) e)
+      (λ (e : (length (lines_left s from) ≤ most) × (most ≤ limit)). place_end s from most e.0 ∙ sym (place_end s from limit (omega (arith, e.0, e.1))))
+      enough
+
+  part_lines : take most (lines_left s from) ≡ take limit (lines_left s from)
+  part_lines =
+      ⊎_elim
+      (λ (e : most ≡ limit). ap (λ (n : ℕ). take n (lines_left s from)) e)
+      (λ (e : (length (lines_left s from) ≤ most) × (most ≤ limit)).
+      take_all most (lines_left s from) e.0 ∙ sym (take_all limit (lines_left s from) (omega (arith, e.0, e.1))))
+      enough
+
+  -- what is judged into so many answers is what the limit asks for
+  pub batch_part : (b : Batch) (a : List ℕ) → batch_outcome b a ≡ batched s from (length (take most d)) (take most d) → batch_outcome b (a ++ drop most d) ≡ batched s from limit d
+  batch_part b a e =
+      let n = part_size in
+      let u = numbers_of (take limit (lines_left s from)) in
+      let done : batch_outcome b a ≡ judged (place_after s from most) (batch_count s from most) (over (take most d) 0 (numbers_of (take most (lines_left s from)))) =
+      e ∙ sym (batch_done s from (length (take most d)) (take most d) (omega arith)) ∙ (λ i. judged (place_after s from (n i)) (batch_count s from (n i)) (over (take most d) 0 (numbers_of (take (n i) (lines_left s from))))) in
+      let c : batch_count s from most ≡ batch_count s from limit = omega arith in
+      let fits : length u ≤ length (take most d) = omega (arith, n, length-map (take limit (lines_left s from)) (λ (l : List ℕ). (line_answer l).number), length-take limit (lines_left s from)) in
+      let batch : b ≡ record { number = 0; place = place_after s from limit; count = batch_count s from limit } =
+      ap (λ (o : BatchOutcome). o.batch) done ∙ (λ i. record { number = 0; place = part_place i; count = c i }) in
+      let answers : a ++ drop most d ≡ over d 0 u =
+      ap (λ (o : BatchOutcome). o.answers ++ drop most d) done ∙ ap (λ (ls : List (List ℕ)). over (take most d) 0 (numbers_of ls) ++ drop most d) part_lines ∙ over_part d u most fits in
+      (λ i. batch_outcome (batch i) (answers i)) ∙ batch_done s from limit d h
+
 -- ---- line by line
 
 -- at a place, with so many lines judged and at most so many left: what the rest gives is what the whole does
@@ -140,25 +190,22 @@ module _ (s : List ℕ) (from limit : ℕ) (d : List ℕ) where
         (λ i. judged ((e ∙ place_stopped s place left h ∙ j.place_is) i) (c i) (w i)) ∙ batch_done s from limit d room
 
     -- one line more
-    module _ (e : ℕ) (h : place < length s) (f : e ≡ next_at line_feed s place) (l : 0 < left) where
+    module _ (e fewer : ℕ) (h : place < length s) (f : e ≡ next_at line_feed s place) (l : left ≡ suc fewer) where
       one_more : length (lines_left s place) ≡ suc (length (lines_left s (e + 1)))
       one_more = ap length (line_and_left s place e h f)
 
-      pub room_for_one : batch_count s from limit ≤ length d → count < length a
-      room_for_one room = omega (arith, one_more, j.count_is, j.same_size)
-
-      pub judging_on : batch_count s from limit ≤ length d → (x : ℕ) → x ≡ (line_answer (take (e - place) (drop place s))).number
-          → Judging s from limit d (set a count x) (e + 1) (count + 1) (left - 1)
-      judging_on room x q =
-          let rest = numbers_of (take (left - 1) (lines_left s (e + 1))) in
-          let k : left ≡ suc (left - 1) = omega arith in
-          let first : numbers_of (take left (lines_left s place)) ≡ x ∷ rest = (λ i. numbers_of (take (k i) (line_and_left s place e h f i))) ∙ ap (λ (y : ℕ). y ∷ rest) (sym q) in
-          let at = room_for_one room in
+      pub judging_on : batch_count s from limit ≤ length d → (x : ℕ) → x ≡ (line_answer (take (e - place) (drop place s))).number → (index : ℕ) → index ≡ count
+          → Judging s from limit d (set a index x) (e + 1) (count + 1) fewer
+      judging_on room x q index i =
+          let rest = numbers_of (take fewer (lines_left s (e + 1))) in
+          let first : numbers_of (take left (lines_left s place)) ≡ x ∷ rest = (λ i. numbers_of (take (l i) (line_and_left s place e h f i))) ∙ ap (λ (y : ℕ). y ∷ rest) (sym q) in
+          let at : count < length a = omega (arith, one_more, j.count_is, j.same_size) in
           let one : over (set a count x) (count + 1) rest ≡ over a count (x ∷ rest) = ap (λ (v : List ℕ). over v (count + 1) rest) (over-set a count x at) ∙ over-over a count (x ∷ []) rest (omega arith) in
-          record {
+          rw i
+          (record {
             falls = omega (arith, j.falls);
             same_size = length-set a count x ∙ j.same_size;
-            place_is = place-next s place e left h f l ∙ j.place_is;
+            place_is = place-next s place e left fewer h f l ∙ j.place_is;
             count_is = omega (arith, one_more, j.count_is);
             answers_are = one ∙ ap (over a count) (sym first) ∙ j.answers_are;
-          }
+          })

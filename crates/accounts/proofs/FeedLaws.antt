@@ -7,7 +7,10 @@ use mathlib.Core.Path.{◌≡◌, refl, sym, ap, ◌∙◌}
 use native.Mathlib.Omega.{arith}
 use borrow.Author.Tests.{le-leb, lt-leb}
 use lib.ListN.{length, take, drop, length-take, length-drop}
-use lib.Seq.{take-take}
+use lib.Seq.{take-take, drop-drop}
+use borrow.Rule.Slice.PartMut.{put_mid}
+use Rattle.std.proofs.Common.{rules}
+use Rattle.std.proofs.lemmas.Slice.{overwrites}
 use Rattle.text.specs.Text.{line_feed, has, find, cut, next_at}
 use Rattle.text.specs.Place.{Outcome, outcome, refused, has_room, over, put}
 use Rattle.text.proofs.Scanning.{find-le}
@@ -23,17 +26,34 @@ use Rattle.accounts.specs.declared.listing.Listed.TheVariants.{Row, UsedUp, NoRo
 
 -- ---- the bytes that a state stands for
 
-pub held_by : (d : List ℕ) (kept n e : ℕ) → n ≡ min kept (length d) → e ≡ next_at line_feed (take (n - 0) (drop 0 d)) 0 → Held d kept e
+pub held_by : (d : List ℕ) (kept n e : ℕ) → n ≡ min kept (length d) → e ≡ next_at line_feed (take n d) 0 → Held d kept e
 unfolding held_of
 held_by d kept n e q r =
-    let t : take (n - 0) (drop 0 d) ≡ take kept d = let z : n - 0 ≡ min kept (length d) = omega arith in ap (λ (k : ℕ). take k d) z ∙ take_min d kept in
-    let f : e ≡ find line_feed (take kept d) = r ∙ (let z : next_at line_feed (take (n - 0) (drop 0 d)) 0 ≡ find line_feed (take (n - 0) (drop 0 d)) = omega arith in z) ∙ ap (find line_feed) t in
+    let t : take n d ≡ take kept d = ap (λ (k : ℕ). take k d) q ∙ take_min d kept in
+    let f : e ≡ find line_feed (take kept d) = r ∙ (let z : next_at line_feed (take n d) 0 ≡ find line_feed (take n d) = omega arith in z) ∙ ap (find line_feed) t in
     let l : length (take kept d) ≡ min kept (length d) = length-take kept d in
     let b : e ≤ length (take kept d) = omega (arith, find-le line_feed (take kept d)) in
     record {
       bytes = sym (cut_before line_feed (take kept d) ∙ ap (λ (k : ℕ). take k (take kept d)) (sym f) ∙ take-take e kept d (omega arith));
       inside = omega arith;
     }
+
+-- ---- bytes copied
+
+-- two texts, one after the other, read back
+pub joined : (out begun more y₁ y₂ : List ℕ) → y₁ ≡ begun → y₂ ≡ more → length begun + length more ≤ length out
+    → take (length begun + length more) (put_mid (length begun) (length begun + length more - length begun) (put_mid 0 (length begun) out y₁) y₂) ≡ begun ++ more
+joined out begun more y₁ y₂ e₁ e₂ h = rw (e₁, e₂) (search (rules, overwrites))
+
+-- as many bytes more, after the first `held`, as there is room for
+pub kept_copied : (d ys more : List ℕ) (held count : ℕ) → length d ≡ most_kept → held ≤ most_kept → count ≡ min (length more) (most_kept - held) → ys ≡ take count more
+    → (held + count ≡ held + length (take (most_kept - held) more)) × (put_mid held (held + count - held) d ys ≡ over d held (take (most_kept - held) more))
+kept_copied d ys more held count l h q e =
+    let t = take (most_kept - held) more in
+    let k : count ≡ min (most_kept - held) (length more) = omega arith in
+    let w : ys ≡ t = e ∙ ap (λ (n : ℕ). take n more) k ∙ take_min more (most_kept - held) in
+    let n : held + count - held ≡ length t = omega (arith, length-take (most_kept - held) more) in
+    (omega (arith, n), (λ i. take held d ++ (w i ++ drop (n i) (drop held d))) ∙ ap (λ (v : List ℕ). take held d ++ (t ++ v)) (drop-drop (length t) held d))
 
 -- ---- the end of the input
 
@@ -44,12 +64,11 @@ last_row n (a ∷ u) z = append-nil (row_text n (line_answer (a ∷ u)))
 pub end_nothing : (d : List ℕ) (kept count n : ℕ) → Held d kept count → count ≡ 0 → rows_from n (last_line (held_of d kept)) ≡ []
 end_nothing d kept count n h z = ap (λ (u : List ℕ). rows_from n (last_line u)) (sym h.bytes ∙ ap (λ (k : ℕ). take k d) z)
 
-pub end_row : (d : List ℕ) (kept count n : ℕ) → Held d kept count → (count ≡ 0 → ⊥) → (a : Answer) → a ≡ line_answer (take (count - 0) (drop 0 d))
+pub end_row : (d : List ℕ) (kept count n : ℕ) → Held d kept count → (count ≡ 0 → ⊥) → (a : Answer) → a ≡ line_answer (take count d)
     → rows_from n (last_line (held_of d kept)) ≡ row_text n a
 end_row d kept count n h z a e =
-    let t : take (count - 0) (drop 0 d) ≡ held_of d kept = let q : count - 0 ≡ count = omega arith in ap (λ (k : ℕ). take k d) q ∙ h.bytes in
     let l : length (held_of d kept) ≡ count = ap length (sym h.bytes) ∙ length-take count d ∙ (let q : min count (length d) ≡ count = omega (arith, h.inside) in q) in
-    last_row n (held_of d kept) (λ (k : length (held_of d kept) ≡ 0). z (sym l ∙ k)) ∙ ap (row_text n) (sym (e ∙ ap line_answer t))
+    last_row n (held_of d kept) (λ (k : length (held_of d kept) ≡ 0). z (sym l ∙ k)) ∙ ap (row_text n) (sym (e ∙ ap line_answer h.bytes))
 
 -- ---- a row, by the room
 
@@ -80,15 +99,14 @@ module _ (d buf left t : List ℕ) (n place at number count : ℕ) where
 
 module _ (d : List ℕ) (kept held n : ℕ) (part : List ℕ) (from e : ℕ) (buf : List ℕ) where
   pub next_row : (left : List ℕ) (at : ℕ) (r : Listed) (a : Answer) → Held d kept held → e ≡ next_at line_feed part from → e < length part
-      → a ≡ line_answer (take (held - 0) (drop 0 d) ++ take (e - from) (drop from part))
+      → a ≡ line_answer (take held d ++ take (e - from) (drop from part))
       → fed r d left ≡ row_fed n (row_text n a) (e + 1) d buf at → fed r d left ≡ next_fed d kept n part from buf at
   unfolding next_fed
   next_row left at r a h q l b f =
       let s = drop from part in
       let there : has line_feed s ≡ true = found line_feed s (omega (arith, length-drop from part)) in
       let line : take (e - from) s ≡ (cut line_feed s).0 = cut_to line_feed part from e q in
-      let begun : take (held - 0) (drop 0 d) ≡ held_of d kept = (let z : held - 0 ≡ held = omega arith in ap (λ (k : ℕ). take k d) z) ∙ h.bytes in
-      let answer : a ≡ line_answer (held_of d kept ++ (cut line_feed s).0) = b ∙ (λ i. line_answer (begun i ++ line i)) in
+      let answer : a ≡ line_answer (held_of d kept ++ (cut line_feed s).0) = b ∙ (λ i. line_answer (h.bytes i ++ line i)) in
       let place : e + 1 ≡ suc (from + find line_feed s) = omega arith in
       rw there (f ∙ (λ i. row_fed n (row_text n (answer i)) (place i) d buf at))
 

@@ -1,29 +1,21 @@
 -- A line of the listing: the names of the kinds, and lengths.
 -- Assumes nothing.
-use Prim.Native.Nat.{ℕ, ◌+◌, ◌≤◌}
+use Prim.Native.Nat.{ℕ, ◌+◌, ◌≤◌, min}
 use mathlib.Core.Bool.{Bool, true, false, cond}
-use mathlib.Core.List.{[], ◌∷◌, ◌++◌}
+use mathlib.Core.List.{List, [], ◌∷◌, ◌++◌}
 use mathlib.Core.Path.{◌≡◌}
+use native.Mathlib.Decide.{dec_le}
 use native.Mathlib.Omega.{arith}
+use borrow.Author.Tests.{lt-ltb, le-ltb}
 use lib.Dec.{eqb}
 use lib.ListN.{length, length-append}
-use borrow.Author.Tests.{ne_eqb}
 use Rattle.text.specs.Text.{text, tab, line_feed}
+use Rattle.text.specs.Place.{outcome, put}
+use Rattle.text.specs.Units.{sum_within}
+use Rattle.text.proofs.Wrote.{Chain, chain_sum, next_put}
 use Rattle.decimal.specs.Decimal.{digits}
-use Rattle.accounts.specs.Listing.{kind_line, row_text}
+use Rattle.accounts.specs.Listing.{kind_line, row_text, largest_line_number, next_line}
 use Rattle.accounts.specs.declared.line.Answer.{Answer}
-
-pub kind_1 : (k : ℕ) → k ≡ 1 → kind_line k ≡ text "parameters" ++ (line_feed ∷ [])
-kind_1 k e = rw e
-
-pub kind_2 : (k : ℕ) → k ≡ 2 → kind_line k ≡ text "salt" ++ (line_feed ∷ [])
-kind_2 k e = rw e
-
-pub kind_3 : (k : ℕ) → k ≡ 3 → kind_line k ≡ text "hash" ++ (line_feed ∷ [])
-kind_3 k e = rw e
-
-pub kind_other : (k : ℕ) → (k ≡ 1 → ⊥) → (k ≡ 2 → ⊥) → (k ≡ 3 → ⊥) → kind_line k ≡ text "-" ++ (line_feed ∷ [])
-kind_other k p q r = rw (ne_eqb k 1 p, ne_eqb k 2 q, ne_eqb k 3 r)
 
 pub kind_length : (k : ℕ) → length (kind_line k) ≤ 11
 kind_length k = go (eqb k 1) (eqb k 2) (eqb k 3)
@@ -42,3 +34,21 @@ row-length n a =
     let t₃ = t₂ ++ digits a.number in
     let t₄ = t₃ ++ (tab ∷ []) in
     omega (arith, length-append t₄ (kind_line a.kind), length-append t₃ (tab ∷ []), length-append t₂ (digits a.number), length-append t₁ (tab ∷ []))
+
+-- one text more, its length added by `plus`
+pub next_plus : {d t u : List ℕ} {us : List (List ℕ)} {d₁ d₂ : List ℕ} {n number count m : ℕ} → Chain d t (u ∷ us) d₁ n → outcome number count d₂ ≡ put d₁ n u
+    → m ≡ sum_within n count → Chain d (t ++ u) us d₂ m
+next_plus {d} {t} {u} {us} {d₁} {d₂} {n} {number} {count} {m} a e q =
+    let more = next_put a e in
+    let k : m ≡ n + count = omega (arith, chain_sum more) in
+    rw k more
+
+-- ---- the number of the next line
+
+pub next-min : (n : ℕ) → n ≤ largest_line_number → min (n + 1) largest_line_number ≡ next_line n
+unfolding next_line
+next-min n h =
+    elim (dec_le largest_line_number n) [
+      | yes k ↦ rw (le-ltb n largest_line_number k) (omega arith)
+      | no k ↦ rw (lt-ltb n largest_line_number (omega arith)) (omega arith)
+    ]

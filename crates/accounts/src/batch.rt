@@ -1,11 +1,10 @@
 // Batches of lines: at most so many are judged in a call, so that a program can do other work in between.
-ghost use Rattle.std.specs.Prelude.{◌≤◌, ◌≡◌, length};
-ghost use Rattle.accounts.specs.Batches.{batch_count, batch_outcome, batched};
+ghost use Rattle.std.specs.Prelude.{◌≡◌, length};
+ghost use Rattle.accounts.specs.Batches.{batch_outcome, batched};
 
 use crate::line::judge;
 use crate::room::answers_fit;
-use text::numbers::NO_ROOM;
-use text::order::min;
+use refusals::Refusal;
 use text::scan::next_at;
 
 // 0, the place to go on from and the count of lines judged; or 17 and zeros.
@@ -16,25 +15,24 @@ pub struct Batch {
     pub count: usize,
 }
 
-// Judges at most so many lines; their answers fit.
-fn judge_lines(text: &[u8], from: usize, limit: usize, answers: &mut [u8]) -> Batch
-    requires { batch_count text.now from limit ≤ length answers.old }
-    ensures { batch_outcome result answers.new ≡ batched text.now from limit answers.old }
+// Judges as many lines as have an answer in the slice.
+fn judge_lines(text: &[u8], from: usize, answers: &mut [u8]) -> Batch
+    ensures { batch_outcome result answers.new ≡ batched text.now from (length answers.old) answers.old }
 {
     let mut place = from;
-    let mut count: usize = 0;
-    let mut left = limit;
-    while 0 < left && place < text.len() {
+    let mut count = 0;
+    for answer in answers.iter_mut() {
+        if text.len() <= place {
+            break;
+        }
         let end = next_at(text, place, b'\n');
-        let answer = judge(&text[place..end]);
-        answers[count] = answer.number;
+        *answer = judge(&text[place..end]).number;
         place = end + 1;
         count += 1;
-        left -= 1;
     }
     Batch {
         number: 0,
-        place: min(place, text.len()),
+        place: place.min(text.len()),
         count,
     }
 }
@@ -46,10 +44,11 @@ pub fn judge_batch(text: &[u8], from: usize, limit: usize, answers: &mut [u8]) -
 {
     if !answers_fit(text, from, limit, answers.len()) {
         return Batch {
-            number: NO_ROOM,
+            number: Refusal::NoRoom.number(),
             place: 0,
             count: 0,
         };
     }
-    judge_lines(text, from, limit, answers)
+    let most = limit.min(answers.len());
+    judge_lines(text, from, &mut answers[..most])
 }

@@ -6,6 +6,5 @@ pub mod batch;
 pub mod limits;
 pub mod line;
 pub mod listing;
-pub mod numbers;
 mod room;
 pub mod row;

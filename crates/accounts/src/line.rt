@@ -1,13 +1,14 @@
 // One line of account text, without its line feed: name, tab, string.
-ghost use Rattle.std.specs.Prelude.{◌≤◌, ◌≡◌, length};
-ghost use Rattle.text.specs.Text.{tab, find};
-ghost use Rattle.accounts.specs.Lines.{longest_line, line_refusal, line_answer};
+ghost use Rattle.std.specs.Prelude.{◌≡◌, ◌==◌, IfOk};
+ghost use Rattle.std.specs.List.{position};
+ghost use Rattle.text.specs.Text.{tab};
+ghost use Rattle.refusals.specs.Numbers.{number_of, number};
+ghost use Rattle.accounts.specs.Lines.{string_of, line_refusal, line_answer};
 
 use crate::limits::LONGEST_LINE;
-use crate::numbers::{BAD_NAME, LINE_TOO_LONG};
 use fast_path::reader::read;
 use grammar::names::is_name;
-use text::scan::next_at;
+use refusals::Refusal;
 
 // The number of a line, and the kind of its string: 1 parameters, 2 salt, 3 hash; 0 where the line is refused.
 #[derive(Clone, Copy)]
@@ -16,39 +17,52 @@ pub struct Answer {
     pub kind: u8,
 }
 
-// Row 19 of a line that is not too long, given the place of its first tab; 0 where it doesn't apply.
-fn name_refusal(line: &[u8], place: usize) -> u8
-    requires { (place ≡ find tab line.now) × (length line.now ≤ longest_line) }
-    ensures { result ≡ line_refusal line.now }
+impl Answer {
+    // That of a line that is refused.
+    pub(crate) fn refused(refusal: Refusal) -> Answer
+        ensures { result ≡ record { number = number_of refusal; kind = 0 } }
+    {
+        Answer {
+            number: refusal.number(),
+            kind: 0,
+        }
+    }
+}
+
+// The place of the first tab.
+fn first_tab(line: &[u8]) -> Option<usize>
+    ensures { result ≡ position (λ x. x == tab) line.now }
 {
-    if line.len() <= place {
-        return BAD_NAME;
+    line.iter().position(|c| *c == b'\t')
+}
+
+// The string of a line: all after its first tab. 18 or 19 where that row applies.
+fn string_of(line: &[u8]) -> Result<&[u8], Refusal>
+    ensures refusal { number result ≡ line_refusal line.now }
+    ensures string { IfOk result (λ s. s.now ≡ string_of line.now) }
+{
+    // Known by the length: a long line is refused without a look at its bytes.
+    if LONGEST_LINE < line.len() {
+        return Err(Refusal::LineTooLong);
     }
-    if is_name(&line[0..place]) {
-        return 0;
+    match first_tab(line) {
+        Some(tab) if is_name(&line[..tab]) => Ok(&line[tab + 1..]),
+        _ => Err(Refusal::BadName),
     }
-    BAD_NAME
 }
 
 // Judges one line, whatever bytes it holds: 18, 19, or what the profile reader says of all after its first tab.
 pub fn judge(line: &[u8]) -> Answer
     ensures { result ≡ line_answer line.now }
 {
-    // Known by the length: a long line is refused without a look at its bytes.
-    if LONGEST_LINE < line.len() {
-        return Answer {
-            number: LINE_TOO_LONG,
-            kind: 0,
-        };
-    }
-    let tab = next_at(line, 0, b'\t');
-    let number = name_refusal(line, tab);
-    if number != 0 {
-        return Answer { number, kind: 0 };
-    }
-    let r = read(&line[tab + 1..]);
-    Answer {
-        number: r.number,
-        kind: r.kind,
+    match string_of(line) {
+        Ok(string) => {
+            let r = read(string);
+            Answer {
+                number: r.number,
+                kind: r.kind,
+            }
+        }
+        Err(refusal) => Answer::refused(refusal),
     }
 }

@@ -8,9 +8,8 @@ ghost use Rattle.accounts.specs.FeedingSteps.{Held};
 
 use crate::limits::{LONGEST_LINE, MOST_KEPT};
 use crate::line::{Answer, judge};
-use crate::numbers::LINE_TOO_LONG;
 use crate::row::write_row;
-use text::order::min;
+use refusals::Refusal;
 use text::place::{Written, write_text};
 use text::scan::next_at;
 use text::units::Chars;
@@ -36,25 +35,14 @@ pub enum Listed {
 fn held_len(array: &[u8], kept: usize) -> usize
     ensures { Held array.now kept result }
 {
-    let n = min(kept, array.len());
-    next_at(&array[0..n], 0, b'\n')
-}
-
-// What stands from a place on; empty past the end.
-fn tail(s: &[u8], from: usize) -> &[u8]
-    ensures { result.now ≡ drop from s.now }
-{
-    if from < s.len() {
-        return &s[from..];
-    }
-    &s[0..0]
+    next_at(&array[..kept.min(array.len())], 0, b'\n')
 }
 
 // The number of the next line; past the largest u64 it stays.
 fn next_line(line: u64) -> u64
     ensures { result ≡ next_line line }
 {
-    if line < u64::MAX { line + 1 } else { line }
+    line.saturating_add(1)
 }
 
 // Judges the line of two parts, which fit the buffer one after the other.
@@ -62,29 +50,21 @@ fn judge_copied(begun: &[u8], more: &[u8], out: &mut [u8]) -> Answer
     requires { length begun.now + length more.now ≤ length out.old }
     ensures { result ≡ line_answer (begun.now ++ more.now) }
 {
-    write_text(begun, out, 0);
-    write_text(more, out, begun.len());
-    judge(&out[0..begun.len() + more.len()])
+    let len = begun.len() + more.len();
+    out[..begun.len()].copy_from_slice(begun);
+    out[begun.len()..len].copy_from_slice(more);
+    judge(&out[..len])
 }
 
 // Judges the line of two parts: the bytes that were kept, and those up to its line feed.
 fn judge_joined(begun: &[u8], more: &[u8]) -> Answer
     ensures { result ≡ line_answer (begun.now ++ more.now) }
 {
-    if begun.len() == 0 {
+    if begun.is_empty() {
         return judge(more);
     }
-    if LONGEST_LINE < begun.len() {
-        return Answer {
-            number: LINE_TOO_LONG,
-            kind: 0,
-        };
-    }
-    if LONGEST_LINE - begun.len() < more.len() {
-        return Answer {
-            number: LINE_TOO_LONG,
-            kind: 0,
-        };
+    if LONGEST_LINE < begun.len().saturating_add(more.len()) {
+        return Answer::refused(Refusal::LineTooLong);
     }
     let mut scratch = [0u8; LONGEST_LINE];
     judge_copied(begun, more, &mut scratch)
@@ -95,8 +75,8 @@ fn keep(array: &mut [u8], held: usize, more: &[u8]) -> usize
     requires { (length array.old ≡ most_kept) × (held ≤ most_kept) }
     ensures { (result ≡ held + length (take (most_kept - held) more.now)) × (array.new ≡ over array.old held (take (most_kept - held) more.now)) }
 {
-    let count = min(MOST_KEPT - held, more.len());
-    write_text(&more[0..count], array, held);
+    let count = more.len().min(MOST_KEPT - held);
+    array[held..held + count].copy_from_slice(&more[..count]);
     held + count
 }
 
@@ -108,37 +88,10 @@ fn row_of(line: u64, answer: Answer, place: usize, buf: &mut [u8], at: usize) ->
     if w.number != 0 {
         return Listed::NoRoom;
     }
-    let count = w.count;
     Listed::Row {
         place,
-        count,
+        count: w.count,
         line: next_line(line),
-    }
-}
-
-fn next_in(
-    array: &mut [u8],
-    kept: usize,
-    line: u64,
-    part: &[u8],
-    from: usize,
-    buf: &mut [u8],
-    at: usize,
-) -> Listed
-    requires { length array.old ≡ most_kept }
-    ensures { fed result array.new buf.new ≡ next_fed array.old kept line part.now from buf.old at }
-{
-    let held = held_len(array, kept);
-    let end = next_at(part, from, b'\n');
-    if end < part.len() {
-        let answer = judge_joined(&array[0..held], &part[from..end]);
-        return row_of(line, answer, end + 1, buf, at);
-    }
-    if buf.len() < at {
-        return Listed::NoRoom;
-    }
-    Listed::UsedUp {
-        kept: keep(array, held, tail(part, from)),
     }
 }
 
@@ -154,22 +107,27 @@ pub fn next(
 ) -> Listed
     ensures { fed result array.new buf.new ≡ next_fed array.old kept line part.now from buf.old at }
 {
-    next_in(array, kept, line, part, from, buf, at)
-}
-
-fn end_in(array: &[u8], kept: usize, line: u64, buf: &mut [u8], at: usize) -> Written
-    ensures { outcome result.number result.count.0 buf.new ≡ end_put array.now kept line buf.old at }
-{
     let held = held_len(array, kept);
-    if held == 0 {
-        return write_text(b"", buf, at);
+    let end = next_at(part, from, b'\n');
+    if end < part.len() {
+        let answer = judge_joined(&array[..held], &part[from..end]);
+        return row_of(line, answer, end + 1, buf, at);
     }
-    write_row(line, judge(&array[0..held]), buf, at)
+    if buf.len() < at {
+        return Listed::NoRoom;
+    }
+    Listed::UsedUp {
+        kept: keep(array, held, part.get(from..).unwrap_or(&[])),
+    }
 }
 
 // The row of the last line at the end of the input, where it has any byte. 17: it doesn't fit.
 pub fn end(array: &[u8; MOST_KEPT], kept: usize, line: u64, buf: &mut [u8], at: usize) -> Written
     ensures { outcome result.number result.count.0 buf.new ≡ end_put array.now kept line buf.old at }
 {
-    end_in(array, kept, line, buf, at)
+    let held = held_len(array, kept);
+    if held == 0 {
+        return write_text(b"", buf, at);
+    }
+    write_row(line, judge(&array[..held]), buf, at)
 }

@@ -2,7 +2,6 @@
 ghost use Rattle.std.specs.Prelude.{◌≡◌, leb};
 ghost use Rattle.accounts.specs.Batches.{batch_count, place_after};
 
-use text::order::min;
 use text::scan::next_at;
 
 // The place after at most so many lines.
@@ -10,12 +9,13 @@ fn skip_lines(text: &[u8], from: usize, limit: usize) -> usize
     ensures { result ≡ place_after text.now from limit }
 {
     let mut place = from;
-    let mut left = limit;
-    while 0 < left && place < text.len() {
+    for _ in 0..limit {
+        if text.len() <= place {
+            break;
+        }
         place = next_at(text, place, b'\n') + 1;
-        left -= 1;
     }
-    min(place, text.len())
+    place.min(text.len())
 }
 
 // Whether a slice of so many answers has room. Where it has room for the limit nothing is read; else no line past those that it holds.

@@ -5,7 +5,7 @@ ghost use Rattle.accounts.specs.Listing.{header, kind_line, row_text};
 
 use crate::line::Answer;
 use decimal::writer::{unsigned_len, write_unsigned};
-use text::numbers::NO_ROOM;
+use refusals::Refusal;
 use text::place::{Written, has_room, write_text};
 use text::units::Chars;
 
@@ -16,26 +16,15 @@ pub fn write_header(buf: &mut [u8], at: usize) -> Written
     write_text(b"line\tanswer\tkind\n", buf, at)
 }
 
-// The kind's name and a line feed. 17: they don't fit.
-fn write_kind(kind: u8, buf: &mut [u8], at: usize) -> Written
-    ensures { outcome result.number result.count.0 buf.new ≡ put buf.old at (kind_line kind) }
+// The kind's name and a line feed.
+fn kind_line(kind: u8) -> &'static [u8]
+    ensures { result.now ≡ kind_line kind }
 {
     match kind {
-        1 => write_text(b"parameters\n", buf, at),
-        2 => write_text(b"salt\n", buf, at),
-        3 => write_text(b"hash\n", buf, at),
-        _ => write_text(b"-\n", buf, at),
-    }
-}
-
-fn kind_len(kind: u8) -> Chars
-    ensures { result.0 ≡ length (kind_line kind) }
-{
-    match kind {
-        1 => Chars(11),
-        2 => Chars(5),
-        3 => Chars(5),
-        _ => Chars(2),
+        1 => b"parameters\n",
+        2 => b"salt\n",
+        3 => b"hash\n",
+        _ => b"-\n",
     }
 }
 
@@ -43,9 +32,9 @@ fn row_len(line: u64, answer: Answer) -> Chars
     ensures { result.0 ≡ length (row_text line answer) }
 {
     unsigned_len(line)
-        .plus(unsigned_len(answer.number as u64))
+        .plus(unsigned_len(u64::from(answer.number)))
         .plus(Chars(2))
-        .plus(kind_len(answer.kind))
+        .plus(Chars(kind_line(answer.kind).len()))
 }
 
 // Puts the row at the start of a buffer that has room for it.
@@ -53,16 +42,11 @@ fn put_row(line: u64, answer: Answer, out: &mut [u8]) -> Chars
     requires { length (row_text line answer) ≤ length out.old }
     ensures { Wrote (row_text line answer) out.old out.new result.0 }
 {
-    let a = write_unsigned(line, out, 0);
-    let after_line = a.count.0;
-    let b = write_text(b"\t", out, after_line);
-    let before_answer = after_line + b.count.0;
-    let c = write_unsigned(answer.number as u64, out, before_answer);
-    let after_answer = before_answer + c.count.0;
-    let d = write_text(b"\t", out, after_answer);
-    let before_kind = after_answer + d.count.0;
-    let e = write_kind(answer.kind, out, before_kind);
-    Chars(before_kind + e.count.0)
+    let mut count = write_unsigned(line, out, 0).count;
+    count = count.plus(write_text(b"\t", out, count.0).count);
+    count = count.plus(write_unsigned(u64::from(answer.number), out, count.0).count);
+    count = count.plus(write_text(b"\t", out, count.0).count);
+    count.plus(write_text(kind_line(answer.kind), out, count.0).count)
 }
 
 // A row of the listing, into `buf` from `at` on. 17: it doesn't fit. Free answer: a kind past 3 is shown as `-`.
@@ -72,7 +56,7 @@ pub fn write_row(line: u64, answer: Answer, buf: &mut [u8], at: usize) -> Writte
     let count = row_len(line, answer);
     if !has_room(buf.len(), at, count.0) {
         return Written {
-            number: NO_ROOM,
+            number: Refusal::NoRoom.number(),
             count: Chars(0),
         };
     }

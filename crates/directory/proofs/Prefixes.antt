@@ -2,17 +2,20 @@
 -- Assumes nothing.
 use Prim.Native.Nat.{ℕ, ◌≤◌, ◌<◌}
 use mathlib.Core.Bool.{Bool, true, false, not, cond, ◌||◌, and-true, and-false, true≢false, false≢true}
-use mathlib.Core.List.{List, ◌++◌, append_assoc}
+use mathlib.Core.List.{List, [], ◌∷◌, ◌++◌, append_assoc}
+use lib.Dec.{eqb}
 use mathlib.Core.Logic.{◌⊎◌, inl, inr}
 use mathlib.Core.Option.{none, some, some-injective}
-use mathlib.Core.Path.{◌≡◌, refl, ◌∙◌, ap}
+use mathlib.Core.Path.{◌≡◌, refl, sym, ◌∙◌, ap}
 use native.Mathlib.Omega.{arith}
 use lib.ListN.{length, take, drop, set, length-append, length-drop, drop_of_length-le}
 use lib.Seq.{drop-append_seam}
-use Rattle.text.specs.Text.{text, same, empty, starts_with, or_else, maybe}
+use Rattle.text.specs.Text.{text, empty, starts_with, or_else, maybe}
 use Rattle.text.proofs.Tests.{both, is_false}
 use Rattle.text.proofs.Lists.{length_filled, filled_length}
-use Rattle.text.proofs.Starts.{starts_is, starts_own, starts_take}
+use Rattle.std.specs.Cmp.Lexicographic.{pointwise}
+use borrow.Author.Tests.{eq-eqb, ne_eqb, eqb-true, eqb-false}
+use Rattle.text.proofs.Starts.{starts_is, starts_own}
 use Rattle.grammar.specs.Pieces.{OptionalText}
 use Rattle.directory.specs.Braced.{goes_on_after, replace_prefix, dollar_string, braced_text}
 use Rattle.directory.specs.BracedSteps.{prefix_length, is_braced}
@@ -139,16 +142,30 @@ braced_is t = go (goes_on_after (text "{pbkdf2s2}") t) (goes_on_after (text "{pb
 pub short_not_braced : (t : List ℕ) → length t ≤ prefix_length → is_braced t ≡ false
 short_not_braced t h = rw (braced_is t, drop_of_length-le t {i = 10} h, and-false (starts_with (text "{pbkdf2s2}") t), and-false (starts_with (text "{pbkdf2s3}") t))
 
--- of a text with more bytes than a prefix the first so many are compared
-more_after : (prefix t : List ℕ) → length prefix < length t → goes_on_after prefix t ≡ same (take (length prefix) t) prefix
+eqb-comm : (a b : ℕ) → eqb a b ≡ eqb b a
+eqb-comm a b = go (eqb a b) refl
+  where
+    go : (x : Bool) → eqb a b ≡ x → eqb a b ≡ eqb b a
+    go true e = e ∙ sym (eq-eqb b a (sym (eqb-true a b e)))
+    go false e = e ∙ sym (ne_eqb b a (λ k. eqb-false a b e (sym k)))
+
+-- the library's test of a beginning
+begins : (l t : List ℕ) → pointwise eqb l (take (length l) t) ≡ starts_with l t
+begins [] t = refl
+begins (c ∷ l) [] = refl
+begins (c ∷ l) (d ∷ t) = rw (eqb-comm c d, begins l t)
+
+-- a text with more bytes than a prefix goes on after each that it begins with
+more_after : (prefix t : List ℕ) → length prefix < length t → goes_on_after prefix t ≡ pointwise eqb prefix (take (length prefix) t)
 more_after prefix t h =
     let e : empty (drop (length prefix) t) ≡ false = length_filled (drop (length prefix) t) (λ z. omega (arith, length-drop (length prefix) t)) in
-    rw (e, starts_take prefix t, and-true (same (take (length prefix) t) prefix))
+    rw (e, begins prefix t, and-true (starts_with prefix t))
 
-pub braced_first : (t : List ℕ) → prefix_length < length t → same (take 10 t) (text "{pbkdf2s2}") ≡ true → is_braced t ≡ true
+pub braced_first : (t : List ℕ) → prefix_length < length t → pointwise eqb (text "{pbkdf2s2}") (take 10 t) ≡ true → is_braced t ≡ true
 braced_first t h e = rw (braced_is t, more_after (text "{pbkdf2s2}") t h, e)
 
-pub braced_second : (t : List ℕ) → prefix_length < length t → same (take 10 t) (text "{pbkdf2s2}") ≡ false → is_braced t ≡ same (take 10 t) (text "{pbkdf2s3}")
+pub braced_second : (t : List ℕ) → prefix_length < length t → pointwise eqb (text "{pbkdf2s2}") (take 10 t) ≡ false
+    → is_braced t ≡ pointwise eqb (text "{pbkdf2s3}") (take 10 t)
 braced_second t h e = rw (braced_is t, more_after (text "{pbkdf2s2}") t h, e, more_after (text "{pbkdf2s3}") t h)
 
 pub braced_length : (t : List ℕ) → is_braced t ≡ true → prefix_length < length t

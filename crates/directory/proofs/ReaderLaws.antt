@@ -1,19 +1,17 @@
 -- The reader of braced texts: its answers are those of the `$` string, which stands in the array that the code made.
 -- Assumes nothing.
-use Prim.Native.Nat.{ℕ, ◌-◌, ◌≤◌, ◌<◌}
+use Prim.Native.Nat.{ℕ, ◌≤◌, ◌<◌}
 use mathlib.Core.Bool.{true, false}
-use mathlib.Core.List.{List, ◌++◌}
+use mathlib.Core.List.{List, [], append-nil}
 use mathlib.Core.Logic.{◌⊎◌, inl, inr}
 use mathlib.Core.Option.{none, some}
-use mathlib.Core.Path.{◌≡◌, refl, sym, ◌∙◌, ap}
+use mathlib.Core.Path.{◌≡◌, sym, ◌∙◌, ap}
 use native.Mathlib.Omega.{arith}
-use lib.ListN.{length, take, drop, set}
-use lib.Seq.{take-append_seam}
+use lib.ListN.{length, set}
 use borrow.Author.Tests.{ne_eqb}
 use Rattle.text.specs.Text.{text, maybe}
-use Rattle.text.specs.Place.{outcome, refused, put}
-use Rattle.text.proofs.Over.{over_start}
-use Rattle.text.proofs.Writing.{put-fits, put_refused}
+use Rattle.text.specs.Place.{refused}
+use Rattle.text.proofs.Writing.{put_refused}
 use Rattle.grammar.specs.Limits.{longest_string}
 use Rattle.grammar.specs.Pieces.{OptionalText, pieces}
 use Rattle.grammar.proofs.Reading.{bad_string_long, number_bad_string}
@@ -30,27 +28,18 @@ use Rattle.profile.proofs.ReadLaws.{answer_refused, reading-refused, reading_num
 use Rattle.fast_path.specs.Contents.{joined_bytes, refused_contents, all_decoded, contents}
 use Rattle.directory.specs.Braced.{dollar_string, longest_braced}
 use Rattle.directory.specs.Entries.{of_dollar_string, is_directory_id, directory_number, directory_reading, directory_decoded, directory_all_decoded, directory_contents}
-use Rattle.directory.specs.BracedSteps.{is_braced, RefusalIs}
+use Rattle.directory.specs.BracedSteps.{is_braced, RefusedWith}
 use Rattle.directory.proofs.Prefixes.{Differ, dollar_view, dollar-length, dollar-marked, braced_some, not_braced}
 use Rattle.directory.proofs.Texts.{at_most}
 
 -- ---- the `$` string
 
--- in the array: the text copied, and its prefix marked
-pub held : (t out copy left : List ℕ) (number count : ℕ) → is_braced t ≡ true → length t ≤ length out → outcome number count copy ≡ put out 0 t
-    → left ≡ set (set copy 0 36) 9 36 → dollar_string t ≡ some (take (length t) left)
-held t out copy left number count h l e q =
+-- the text copied, and its prefix marked
+pub held : (t copy left : List ℕ) → is_braced t ≡ true → copy ≡ t → left ≡ set (set copy 0 36) 9 36 → dollar_string t ≡ some left
+held t copy left h e q =
     let (s, d) = braced_some t h in
-    let w = put-fits out 0 t number count copy (omega arith) e in
-    let x = drop (length t) out in
-    let c : copy ≡ t ++ x = w.left_is ∙ over_start out t in
-    let m : left ≡ s ++ x = q ∙ ap (λ (y : List ℕ). set (set y 0 36) 9 36) c ∙ dollar-marked t s d x in
-    let k : take (length t) left ≡ s = ap (take (length t)) m ∙ ap (λ (n : ℕ). take n (s ++ x)) (dollar-length t s d).0 ∙ take-append_seam s x in
-    d ∙ ap some (sym k)
-
--- handed on as a part of the array
-front : (n : ℕ) (out : List ℕ) → take (n - 0) (drop 0 out) ≡ take n out
-front n out = let z : n - 0 ≡ n = omega arith in ap (λ (k : ℕ). take k out) z
+    let m : left ≡ s = q ∙ ap (λ (y : List ℕ). set (set y 0 36) 9 36) (e ∙ sym (append-nil t)) ∙ dollar-marked t s d [] ∙ append-nil s in
+    d ∙ ap some (sym m)
 
 module _ {A : Type 0} (refusal : A) (answer : List ℕ → A) where
   pub of_string : (t s : List ℕ) → dollar_string t ≡ some s → of_dollar_string refusal answer t ≡ answer s
@@ -58,10 +47,6 @@ module _ {A : Type 0} (refusal : A) (answer : List ℕ → A) where
 
   pub of_none : (t : List ℕ) → dollar_string t ≡ none → of_dollar_string refusal answer t ≡ refusal
   of_none t d = ap (maybe refusal answer) d
-
-  -- what is said of the part is said of the braced text
-  pub of_held : (t out : List ℕ) → dollar_string t ≡ some (take (length t) out) → answer (take (length t - 0) (drop 0 out)) ≡ of_dollar_string refusal answer t
-  of_held t out h = ap answer (front (length t) out) ∙ sym (of_string t (take (length t) out) h)
 
 -- ---- the number
 
@@ -89,28 +74,23 @@ number_long t s d l =
     let b = bad_string_long s (omega (arith, (dollar-length t s d).0)) in
     sym (of_string 24 (reader_number edition_two) t s d ∙ answer_refused edition_two s 1 (number_bad_string s b) (λ z. omega arith))
 
-pub number_held : (t out : List ℕ) → dollar_string t ≡ some (take (length t) out) → (r : Reading) → r ≡ reading edition_two (take (length t - 0) (drop 0 out))
-    → r.number ≡ directory_number edition_two t
+pub number_held : (t s : List ℕ) → dollar_string t ≡ some s → (r : Reading) → r ≡ reading edition_two s → r.number ≡ directory_number edition_two t
 unfolding directory_number
-number_held t out h r e =
-    ap (λ (x : Reading). x.number) e ∙ reading_number edition_two (take (length t - 0) (drop 0 out)) ∙ of_held 24 (reader_number edition_two) t out h
+number_held t s h r e = ap (λ (x : Reading). x.number) e ∙ reading_number edition_two s ∙ sym (of_string 24 (reader_number edition_two) t s h)
 
 -- ---- the number that is known first
 
-pub refusal_none : (t : List ℕ) → is_braced t ≡ false → RefusalIs t 24
+pub refused_none : (t : List ℕ) → is_braced t ≡ false → (number : ℕ) → number ≡ 24 → RefusedWith t number
 unfolding directory_number
-refusal_none t h = record { refused = λ n. of_none 24 (reader_number edition_two) t (not_braced t h); braced = λ z. absurd (omega arith) }
+refused_none t h number e = record { not_accepted = λ z. absurd (omega (arith, e, z)); number_is = of_none 24 (reader_number edition_two) t (not_braced t h) ∙ sym e }
 
-pub refusal_short : (t : List ℕ) → is_braced t ≡ true → length t ≤ longest_braced → RefusalIs t 0
-refusal_short t h l = record { refused = λ n. absurd (n refl); braced = λ z. (h, l) }
-
-pub refusal_long : (t : List ℕ) → is_braced t ≡ true → longest_braced < length t → (number : ℕ) → number ≡ directory_number edition_two t → RefusalIs t number
+pub refused_long : (t : List ℕ) → is_braced t ≡ true → longest_braced < length t → (number : ℕ) → number ≡ directory_number edition_two t → RefusedWith t number
 unfolding directory_number
-refusal_long t h l number e =
+refused_long t h l number e =
     let (s, d) = braced_some t h in
     record {
-      refused = λ n. sym e;
-      braced = λ z. absurd (omega (arith, short t s d (sym (of_string 24 (reader_number edition_two) t s d) ∙ sym e ∙ z)));
+      not_accepted = λ z. absurd (omega (arith, short t s d (sym (of_string 24 (reader_number edition_two) t s d) ∙ sym e ∙ z)));
+      number_is = sym e;
     }
 
 -- ---- refused

@@ -1,6 +1,6 @@
 -- The writer of braced texts: its number row by row, and the text that it makes in an array of its own.
 -- Assumes nothing.
-use Prim.Native.Nat.{ℕ, ◌-◌, ◌≤◌, ◌<◌}
+use Prim.Native.Nat.{ℕ, ◌≤◌, ◌<◌}
 use mathlib.Core.Bool.{Bool, true, false, cond}
 use mathlib.Core.List.{List, [], ◌∷◌, ◌++◌}
 use mathlib.Core.Option.{some}
@@ -99,8 +99,12 @@ module _ (f : FieldSet) (buffer : List ℕ) (at : ℕ) where
     unfolding writing
     number_is = ap (λ (o : Outcome). o.number) w ∙ after_number (writer_number edition_two f) s (formatted edition_two f) (λ z. omega (arith, at_most f h z))
 
-    pub write_refused : (number ≡ 0 → ⊥) → refused number buffer ≡ directory_writing edition_two f buffer at
-    write_refused n = stopped number (number_row_lem edition_two f h number number_is n) (omega (arith, n))
+    -- a refusal of the profile's writer is this one's
+    pub write_refused : (number ≡ 0 → ⊥) → outcome number count buffer ≡ directory_writing edition_two f buffer at
+    unfolding writing
+    write_refused n =
+        let none : count ≡ 0 = ap (λ (o : Outcome). o.count) (w ∙ sym (put_refused s 0 (formatted edition_two f) (writer_number edition_two f) number (sym number_is) (omega (arith, n)))) in
+        ap (λ (k : ℕ). outcome number k buffer) none ∙ stopped number (number_row_lem edition_two f h number number_is n) (omega (arith, n))
 
     module _ (z : number ≡ 0) where
       clear : writer_number edition_two f ≡ 0
@@ -127,19 +131,19 @@ module _ (f : FieldSet) (buffer : List ℕ) (at : ℕ) where
           go true a = stopped 24 (number_clear edition_two f h clear ∙ ap (λ (b : Bool). cond b 24 0) a) (omega arith)
           go false a = absurd (omega (arith, count_is, name-length f h, more_length edition_two f a))
 
-      pub write_done : prefix_length ≤ count → put buffer at (take (count - 0) (drop 0 (set (set s₁ 0 123) 9 125))) ≡ directory_writing edition_two f buffer at
+      pub write_done : prefix_length ≤ count → put buffer at (take count (set (set s₁ 0 123) 9 125)) ≡ directory_writing edition_two f buffer at
       unfolding directory_writing
       write_done k = go (is_id_alone edition_two f) refl
         where
-          go : (b : Bool) → is_id_alone edition_two f ≡ b → put buffer at (take (count - 0) (set (set s₁ 0 123) 9 125)) ≡ directory_writing edition_two f buffer at
+          go : (b : Bool) → is_id_alone edition_two f ≡ b → put buffer at (take count (set (set s₁ 0 123) 9 125)) ≡ directory_writing edition_two f buffer at
           go true a = absurd (omega (arith, count_is, name-length f h, alone_length edition_two f a))
           go false a =
               let (t, q) = spelled f h a in
               let x = drop (length (formatted edition_two f)) s in
               let d = (dollar-length t (formatted edition_two f) (braced_dollar (formatted edition_two f) t q)).0 in
-              let c : count - 0 ≡ length t = omega (arith, count_is) in
+              let c : count ≡ length t = omega (arith, count_is) in
               let m = ap (λ (y : List ℕ). set (set y 0 123) 9 125) string_is ∙ braced_marked (formatted edition_two f) t q x in
-              let u : take (count - 0) (set (set s₁ 0 123) 9 125) ≡ directory_formatted edition_two f =
+              let u : take count (set (set s₁ 0 123) 9 125) ≡ directory_formatted edition_two f =
               (λ i. take (c i) (m i)) ∙ take-append_seam t x ∙ sym (formatted_is edition_two f t q)
               in
               let n = number_clear edition_two f h clear ∙ ap (λ (b : Bool). cond b 24 0) a in

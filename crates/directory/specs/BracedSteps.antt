@@ -1,9 +1,9 @@
 -- What the private functions' contracts name.
 -- Assumes nothing.
-use Rattle.std.specs.Prelude.{ℕ, ◌≤◌, ◌≡◌, Bool, true, false, List, ◌≢◌, length}
+use Rattle.std.specs.Prelude.{ℕ, ◌≡◌, Bool, true, false, List, ◌≢◌}
 use Rattle.text.specs.Text.{maybe}
 use Rattle.table.specs.Limits.{edition_two}
-use Rattle.directory.specs.Braced.{dollar_string, longest_braced}
+use Rattle.directory.specs.Braced.{dollar_string}
 use Rattle.directory.specs.Entries.{directory_number}
 
 -- bytes of each prefix
@@ -14,7 +14,7 @@ prefix_length = 10
 unfoldable pub is_braced : List ℕ → Bool
 is_braced t = maybe false (λ (s : List ℕ). true) (dollar_string t)
 
--- a text's number where it is known before its fields are; else the text is braced, and short enough to be accepted
-pub record RefusalIs (t : List ℕ) (number : ℕ) : Type 0 where
-  pub refused : number ≢ 0 → directory_number edition_two t ≡ number
-  pub braced : number ≡ 0 → (is_braced t ≡ true) × (length t ≤ longest_braced)
+-- a text that is refused, with its number
+pub record RefusedWith (t : List ℕ) (number : ℕ) : Type 0 where
+  pub not_accepted : number ≢ 0
+  pub number_is : directory_number edition_two t ≡ number

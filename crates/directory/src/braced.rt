@@ -1,12 +1,10 @@
 // Braced texts and `$` strings: they differ in the first and the last byte of their prefix.
-ghost use Rattle.std.specs.Prelude.{◌≤◌, ◌≡◌, true, length, take, set};
+ghost use Rattle.std.specs.Prelude.{◌≤◌, ◌≡◌, true, length, set};
 ghost use Rattle.std.proofs.Math.Option.{some};
 ghost use Rattle.directory.specs.Braced.{dollar_string};
 ghost use Rattle.directory.specs.BracedSteps.{prefix_length, is_braced};
 
 use crate::limits::PREFIX_LEN;
-use text::place::write_text;
-use text::scan::same_text;
 
 // Whether a text goes on after one of the two prefixes.
 pub fn is_braced(t: &[u8]) -> bool
@@ -15,10 +13,7 @@ pub fn is_braced(t: &[u8]) -> bool
     if t.len() <= PREFIX_LEN {
         return false;
     }
-    if same_text(&t[0..PREFIX_LEN], b"{pbkdf2s2}") {
-        return true;
-    }
-    same_text(&t[0..PREFIX_LEN], b"{pbkdf2s3}")
+    t.starts_with(b"{pbkdf2s2}") || t.starts_with(b"{pbkdf2s3}")
 }
 
 // Another first and last byte of the prefix.
@@ -30,11 +25,13 @@ pub fn mark(s: &mut [u8], first: u8, last: u8)
     s[PREFIX_LEN - 1] = last;
 }
 
-// The `$` string of a braced text, to the start of a buffer that has room for it.
-pub fn put_dollar_string(t: &[u8], out: &mut [u8])
+// The `$` string of a braced text, at the start of an array that has room for it.
+pub fn dollar_string<'a>(t: &[u8], out: &'a mut [u8]) -> &'a [u8]
     requires { (is_braced t.now ≡ true) × (length t.now ≤ length out.old) }
-    ensures { dollar_string t.now ≡ some (take (length t.now) out.new) }
+    ensures { dollar_string t.now ≡ some result.now }
 {
-    write_text(t, out, 0);
-    mark(out, b'$', b'$');
+    let string = &mut out[..t.len()];
+    string.copy_from_slice(t);
+    mark(string, b'$', b'$');
+    string
 }

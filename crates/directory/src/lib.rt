@@ -3,6 +3,5 @@
 
 mod braced;
 pub mod limits;
-pub mod numbers;
 pub mod reader;
 pub mod writer;

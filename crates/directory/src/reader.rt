@@ -1,18 +1,19 @@
 // The reader of braced texts: what the profile's entries give for the `$` string. That string is made in an array of its own: a short one, or a
 // long one for a text that is too long to be accepted and still has a number.
-ghost use Rattle.std.specs.Prelude.{◌≡◌, true};
+ghost use Rattle.std.specs.Prelude.{◌≡◌, true, IfOk, IfErr};
+ghost use Rattle.std.proofs.Math.Option.{some};
 ghost use Rattle.text.specs.Place.{outcome};
 ghost use Rattle.table.specs.Limits.{edition_two};
 ghost use Rattle.directory.specs.Entries.{directory_number, directory_reading, directory_decoded, directory_all_decoded, directory_contents};
-ghost use Rattle.directory.specs.BracedSteps.{is_braced, RefusalIs};
+ghost use Rattle.directory.specs.Braced.{dollar_string};
+ghost use Rattle.directory.specs.BracedSteps.{is_braced, RefusedWith};
 
-use crate::braced::{is_braced, put_dollar_string};
+use crate::braced::{dollar_string, is_braced};
 use crate::limits::LONGEST_BRACED;
-use crate::numbers::NO_SPELLING;
 use fast_path::contents::Contents;
 use grammar::limits::LONGEST_STRING;
-use grammar::numbers::BAD_STRING;
 use profile::fields::{ByteString, Reading};
+use refusals::Refusal;
 use text::place::Decoded;
 use text::units::Bytes;
 
@@ -22,54 +23,49 @@ fn long_number(t: &[u8]) -> u8
     ensures { result ≡ directory_number edition_two t.now }
 {
     if LONGEST_STRING < t.len() {
-        return BAD_STRING;
+        return Refusal::BadString.number();
     }
-    let mut s = [0u8; LONGEST_STRING];
-    put_dollar_string(t, &mut s);
-    let r = profile::reader::read(&s[0..t.len()]);
-    r.number
+    let mut array = [0u8; LONGEST_STRING];
+    profile::reader::read(dollar_string(t, &mut array)).number
 }
 
-// The number of a text that is not braced, or too long to be accepted; 0 for any other.
-fn refusal_of(t: &[u8]) -> u8
-    ensures { RefusalIs t.now result }
+// The `$` string of a braced text that is short enough to be accepted; the number of any other text.
+fn string_of<'a>(t: &[u8], array: &'a mut [u8; LONGEST_BRACED]) -> Result<&'a [u8], u8>
+    ensures refused { IfErr result (RefusedWith t.now) }
+    ensures string { IfOk result (λ s. dollar_string t.now ≡ some s.now) }
 {
     if !is_braced(t) {
-        return NO_SPELLING;
+        return Err(Refusal::NoSpelling.number());
     }
-    if t.len() <= LONGEST_BRACED {
-        return 0;
+    if LONGEST_BRACED < t.len() {
+        return Err(long_number(t));
     }
-    long_number(t)
+    Ok(dollar_string(t, array))
 }
 
 // Kind and number fields of a braced text; or 24, 1, 3 to 7, 9 to 15 and zeros, version absent.
 pub fn read(t: &[u8]) -> Reading
     ensures { result ≡ directory_reading edition_two t.now }
 {
-    let number = refusal_of(t);
-    if number != 0 {
-        return Reading::refused(number);
+    let mut array = [0u8; LONGEST_BRACED];
+    match string_of(t, &mut array) {
+        Ok(s) => fast_path::reader::read(s),
+        Err(number) => Reading::refused(number),
     }
-    let mut s = [0u8; LONGEST_BRACED];
-    put_dollar_string(t, &mut s);
-    fast_path::reader::read(&s[0..t.len()])
 }
 
 // Decodes one of the four byte strings into `buf` from `at` on; the count is the decoded length, 0 when absent. The numbers of `read`, then 17.
 pub fn byte_string(t: &[u8], choice: ByteString, buf: &mut [u8], at: usize) -> Decoded
     ensures { outcome result.number result.count.0 buf.new ≡ directory_decoded edition_two choice t.now buf.old at }
 {
-    let number = refusal_of(t);
-    if number != 0 {
-        return Decoded {
+    let mut array = [0u8; LONGEST_BRACED];
+    match string_of(t, &mut array) {
+        Ok(s) => profile::reader::byte_string(s, choice, buf, at),
+        Err(number) => Decoded {
             number,
             count: Bytes(0),
-        };
+        },
     }
-    let mut s = [0u8; LONGEST_BRACED];
-    put_dollar_string(t, &mut s);
-    profile::reader::byte_string(&s[0..t.len()], choice, buf, at)
 }
 
 // What `read` gives, how many bytes each byte string has, and keyid, data, salt and output, one after the other, in `buf` from `at` on. The
@@ -77,11 +73,9 @@ pub fn byte_string(t: &[u8], choice: ByteString, buf: &mut [u8], at: usize) -> D
 pub fn read_all(t: &[u8], buf: &mut [u8], at: usize) -> Contents
     ensures { (result ≡ directory_contents edition_two t.now buf.old at) × (buf.new ≡ (directory_all_decoded edition_two t.now buf.old at).buffer) }
 {
-    let number = refusal_of(t);
-    if number != 0 {
-        return Contents::refused(number);
+    let mut array = [0u8; LONGEST_BRACED];
+    match string_of(t, &mut array) {
+        Ok(s) => fast_path::reader::read_all(s, buf, at),
+        Err(number) => Contents::refused(number),
     }
-    let mut s = [0u8; LONGEST_BRACED];
-    put_dollar_string(t, &mut s);
-    fast_path::reader::read_all(&s[0..t.len()], buf, at)
 }

@@ -7,8 +7,8 @@ ghost use Rattle.directory.specs.Entries.{is_directory_id, directory_writing};
 
 use crate::braced::mark;
 use crate::limits::{LONGEST_BRACED, PREFIX_LEN};
-use crate::numbers::NO_SPELLING;
 use profile::fields::NumberFields;
+use refusals::Refusal;
 use text::place::{Written, write_text};
 use text::units::Chars;
 
@@ -20,18 +20,14 @@ const PBKDF2S3: u8 = 5;
 fn is_directory_id(id: u8) -> bool
     ensures { result ≡ is_directory_id id }
 {
-    match id {
-        PBKDF2S2 => true,
-        PBKDF2S3 => true,
-        _ => false,
-    }
+    matches!(id, PBKDF2S2 | PBKDF2S3)
 }
 
-fn refused(number: u8) -> Written
-    ensures { (result.number ≡ number) × (result.count.0 ≡ 0) }
+fn no_spelling() -> Written
+    ensures { (result.number ≡ 24) × (result.count.0 ≡ 0) }
 {
     Written {
-        number,
+        number: Refusal::NoSpelling.number(),
         count: Chars(0),
     }
 }
@@ -50,17 +46,17 @@ pub fn write(
     ensures { outcome result.number result.count.0 buf.new ≡ directory_writing edition_two (field_set n keyid.now «data».now salt.now output.now) buf.old at }
 {
     if !is_directory_id(n.id) {
-        return refused(NO_SPELLING);
+        return no_spelling();
     }
     let mut s = [0u8; LONGEST_BRACED];
     let w = profile::writer::write(n, keyid, data, salt, output, &mut s, 0);
     if w.number != 0 {
-        return refused(w.number);
+        return w;
     }
     let len = w.count.0;
     if len < PREFIX_LEN {
-        return refused(NO_SPELLING);
+        return no_spelling();
     }
     mark(&mut s, b'{', b'}');
-    write_text(&s[0..len], buf, at)
+    write_text(&s[..len], buf, at)
 }

@@ -1,34 +1,32 @@
 -- `accounts::batch::judge_lines` meets its contract, line by line. Assumes nothing.
-use Prim.Native.Nat.{◌≤◌, ◌<◌}
+use Rattle.std.proofs.Common.{◌≡◌, ◌≤◌, ◌<◌, ◌-◌, ◌+◌, ap, ◌∙◌, length, arith}
 use mathlib.Core.Logic.{◌⊎◌, inl, inr}
-use native.Mathlib.Omega.{arith}
-use lib.ListN.{length}
+use Rattle.std.proofs.lemmas.List.{set-get_or}
 use Rattle.text.proofs.Scanning.{find_from_le}
-use Rattle.accounts.proofs.BatchLaws.{judging_done, room_for_one, judging_on}
+use Rattle.accounts.specs.Batches.{batch_outcome}
+use Rattle.accounts.proofs.BatchLaws.{judging_done, judging_on}
 use Rattle.accounts.proofs.batch.judge_lines.Goals as goal
-use Rattle.accounts.proofs.batch.judge_lines.Goals.{then-loop-left-test+else-place-text, else-loop-left-test}
+use Rattle.accounts.proofs.batch.judge_lines.Goals.{else-loop-answer-test, then-loop-answer-test+then-text-place}
 
 pub slice_bounds-judge-end : goal.slice_bounds-judge-end
 slice_bounds-judge-end c =
-    let inside : c.loop-left.place < length c.args.text.now = c.if-place-text.true in
-    omega (arith, c.next_at-end.ensures, find_from_le 10 c.args.text.now c.loop-left.place (omega (arith, inside)))
+    let inside : c.loop-answer.place < length c.args.text.now = c.if-text-place.false in
+    omega (arith, c.next_at-end.ensures, find_from_le 10 c.args.text.now c.loop-answer.place (omega (arith, inside)))
 
-pub bounds-answers-count : goal.bounds-answers-count
-bounds-answers-count c =
-    let inside : c.loop-left.place < length c.args.text.now = c.if-place-text.true in
+pub loop-answer-preserved : goal.loop-answer-preserved
+loop-answer-preserved c =
     let a = c.args in
-    room_for_one a.text.now a.from a.limit a.answers.now c.loop-left.answers c.loop-left.place c.loop-left.count c.loop-left.left c.loop-left.invariant
-    c.next_at-end.result inside c.next_at-end.ensures c.loop-left-test.true c.requires
-
-pub loop-left-preserved : goal.loop-left-preserved
-loop-left-preserved c =
-    let inside : c.loop-left.place < length c.args.text.now = c.if-place-text.true in
-    let a = c.args in
-    judging_on a.text.now a.from a.limit a.answers.now c.loop-left.answers c.loop-left.place c.loop-left.count c.loop-left.left c.loop-left.invariant
-    c.next_at-end.result inside c.next_at-end.ensures c.loop-left-test.true c.requires c.judge-answer.result.number (λ i. (c.judge-answer.ensures i).number)
+    let l = c.loop-answer in
+    judging_on a.text.now a.from (length a.answers.now) a.answers.now l.answers l.place l.count (length a.answers.now - l.answer-index) l.invariant
+    c.next_at-end.result (length a.answers.now - (l.answer-index + 1)) c.if-text-place.false c.next_at-end.ensures (omega (arith, c.loop-answer-test.true))
+    (omega arith) c.judge.result.number (ap (λ r. r.number) c.judge.ensures) l.answer-index (omega (arith, l.invariant.falls, c.loop-answer-test.true))
 
 pub returns : goal.returns
 returns c =
-    let stopped : (c.loop-left.left ≤ 0) ⊎ (length c.args.text.now ≤ c.loop-left.place) = elim c.loop-left-test.branch [ then-loop-left-test+else-place-text w ↦ inr w.if-place-text.false | else-loop-left-test w ↦ inl (omega (arith, w.loop-left-test.false)) ] in
     let a = c.args in
-    judging_done a.text.now a.from a.limit a.answers.now c.loop-left.answers c.loop-left.place c.loop-left.count c.loop-left.left c.loop-left.invariant c.requires stopped c.min.result c.min.ensures
+    let l = c.loop-answer in
+    let left = length a.answers.now - l.answer-index in
+    let stopped : (left ≤ 0) ⊎ (length a.text.now ≤ l.place) = elim c.loop-answer-test.branch [ else-loop-answer-test w ↦ inl (omega (arith, w.loop-answer-test.false)) | then-loop-answer-test+then-text-place w ↦ inr w.if-text-place.true ] in
+    let same : c.loop-answer-test.answers ≡ l.answers = elim c.loop-answer-test.branch [ else-loop-answer-test w ↦ w.answers-is | then-loop-answer-test+then-text-place w ↦ w.answers-is ∙ set-get_or l.answers l.answer-index 0 ] in
+    ap (batch_outcome _) same
+    ∙ judging_done a.text.now a.from (length a.answers.now) a.answers.now l.answers l.place l.count left l.invariant (omega arith) stopped c.min.result c.min.ensures

@@ -3,6 +3,4 @@ use Rattle.accounts.proofs.FeedLaws.{held_by}
 use Rattle.accounts.proofs.listing.held_len.Goals as goal
 
 pub returns : goal.returns
-returns c =
-    let a = c.args in
-    held_by a.array.now a.kept c.min-n.result c.next_at.result c.min-n.ensures c.next_at.ensures
+returns c = held_by c.args.array.now c.args.kept c.min.result c.next_at.result c.min.ensures c.next_at.ensures

@@ -1,9 +1,9 @@
--- `accounts::listing::end_in` meets its contract. Assumes nothing.
-use mathlib.Core.Path.{sym, ap, ◌∙◌}
+-- `accounts::listing::end` meets its contract. Assumes nothing.
+use Rattle.std.proofs.Common.{sym, ap, ◌∙◌}
 use Rattle.text.specs.Place.{put}
 use Rattle.accounts.specs.Feeding.{end_put}
 use Rattle.accounts.proofs.FeedLaws.{end_nothing, end_row}
-use Rattle.accounts.proofs.listing.end_in.Goals as goal
+use Rattle.accounts.proofs.listing.end.Goals as goal
 
 pub returns-then-held-eq0 : goal.returns-then-held-eq0
 unfolding end_put
