@@ -6,6 +6,9 @@ use crate::read_full;
 use crate::show::show;
 use std::io::{Read, Write};
 
+// Room for the rows of a program of known answers.
+pub const INPUT: usize = 262144;
+
 // An array of which the first `count` bytes are filled.
 #[derive(Clone, Copy)]
 pub struct Filled<const N: usize> {
