@@ -10,7 +10,7 @@ use std::io::{Read, Write};
 pub const INPUT: usize = 262144;
 
 // An array of which the first `count` bytes are filled.
-#[derive(Clone, Copy)]
+#[derive(Drop)]
 pub struct Filled<const N: usize> {
     pub array: [u8; N],
     pub count: usize,

@@ -11,7 +11,7 @@ fn line_feed(text: &[u8]) -> Option<usize>
 }
 
 // The lines that are left, each without its line feed. A last line without a line feed is one if it has any byte.
-#[derive(Clone, Copy)]
+#[derive(Drop)]
 pub struct Lines<'a>(pub &'a [u8]);
 
 impl<'a> Iterator for Lines<'a> {
