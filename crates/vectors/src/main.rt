@@ -13,7 +13,7 @@ use readers::show::{show, show_number};
 use std::io::Write;
 use text::scan::nth_part;
 
-// The column at an index from 0; empty past the last.
+// The column at an index from 0; empty past the last. `rows` has the same, above the profiles.
 fn column(line: &[u8], index: usize) -> &[u8] {
     nth_part(line, b'\t', index)
 }
@@ -35,14 +35,14 @@ fn outcome<W: Write>(out: &mut W, answer: u8, count: usize, buf: &[u8]) {
 }
 
 fn encode<W: Write>(out: &mut W, line: &[u8]) {
-    let mut buf = [46u8; 12];
+    let mut buf = [b'.'; 12];
     let at = count(line, 2) as usize;
     let r = b64::encoder::encode(column(line, 1), &mut buf, at);
     outcome(out, r.number, r.count.0, &buf);
 }
 
 fn decode<W: Write>(out: &mut W, line: &[u8]) {
-    let mut buf = [46u8; 10];
+    let mut buf = [b'.'; 10];
     let at = count(line, 2) as usize;
     let r = b64::decoder::decode(column(line, 1), &mut buf, at);
     outcome(out, r.number, r.count.0, &buf);
@@ -51,7 +51,7 @@ fn decode<W: Write>(out: &mut W, line: &[u8]) {
 // The number read is written again.
 fn decimal<W: Write>(out: &mut W, line: &[u8]) {
     let d = read_decimal(column(line, 1));
-    let mut buf = [46u8; 24];
+    let mut buf = [b'.'; 24];
     let at = count(line, 2) as usize;
     let w = decimal::writer::write_decimal(d.value, &mut buf, at);
     show_number(out, d.number);

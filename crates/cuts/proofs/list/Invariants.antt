@@ -1,5 +1,5 @@
 -- `cuts::list` is safe and ends: a part of no bytes is followed by one of some. Assumes nothing.
-use Rattle.std.proofs.Common.{ℕ, ◌+◌, ◌-◌, ◌*◌, ◌<◌, length}
+use Rattle.std.proofs.Common.{◌+◌, ◌-◌, ◌*◌, ◌<◌, length}
 use Rattle.cuts.proofs.list.Given as goal
 
 abbrev pub invariant-loop-rest : goal.invariant-loop-rest
