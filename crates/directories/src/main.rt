@@ -8,15 +8,13 @@
 use directory::reader::{byte_string, read};
 use directory::writer::write;
 use profile::fields::ByteString;
+use readers::filled::{Filled, INPUT};
+use readers::lines::Lines;
+use readers::show::{show, show_number};
 use rows::buffer::{PLACE, front};
-use rows::columns::number_fields;
-use rows::hex::hex_column;
-use rows::input::{read_input, space, warn_if_full};
-use rows::show::{show, show_hex, show_number, show_reading, show_text};
+use rows::fields::write_fields;
+use rows::show::{show_hex, show_reading, show_text};
 use std::io::Write;
-use text::lines::{after_line, line_at};
-use text::place::Written;
-use text::scan::next_at;
 use text::units::Bytes;
 
 // Room for the longest byte string, an output of 64 bytes, from PLACE on.
@@ -31,11 +29,10 @@ fn show_bytes<W: Write>(out: &mut W, t: &[u8], choice: ByteString) {
 
 // The place from which a buffer lacks room for the last of so many bytes; its end where there are none.
 fn one_too_far(count: Bytes) -> usize {
-    let n = count.0;
-    if n == 0 || ROOM < n {
-        return ROOM;
+    match count.0 {
+        n @ 1..=ROOM => ROOM - n + 1,
+        _ => ROOM,
     }
-    ROOM - n + 1
 }
 
 // 17 for an accepted text with an output.
@@ -49,40 +46,27 @@ fn number_without_room(t: &[u8]) -> u8 {
 fn read_row<W: Write>(out: &mut W, t: &[u8]) {
     show(out, t);
     show_reading(out, read(t));
-    show_bytes(out, t, ByteString::Keyid);
-    show_bytes(out, t, ByteString::Data);
-    show_bytes(out, t, ByteString::Salt);
-    show_bytes(out, t, ByteString::Output);
-    show_number(out, number_without_room(t) as u64);
-}
-
-// The writer, on all columns.
-fn write_fields(line: &[u8], buf: &mut [u8]) -> Written {
-    let keyid = hex_column(line, 5);
-    let data = hex_column(line, 6);
-    let salt = hex_column(line, 7);
-    let output = hex_column(line, 8);
-    write(
-        number_fields(line),
-        front(&keyid.array, keyid.count),
-        front(&data.array, data.count),
-        front(&salt.array, salt.count),
-        front(&output.array, output.count),
-        buf,
-        PLACE,
-    )
+    for choice in [
+        ByteString::Keyid,
+        ByteString::Data,
+        ByteString::Salt,
+        ByteString::Output,
+    ] {
+        show_bytes(out, t, choice);
+    }
+    show_number(out, number_without_room(t));
 }
 
 fn write_row<W: Write>(out: &mut W, line: &[u8]) {
     let mut buf = [b'.'; 300];
-    let r = write_fields(line, &mut buf);
+    let r = write_fields(line, &mut buf, write);
     show(out, line);
-    show_number(out, r.number as u64);
+    show_number(out, r.number);
     show_text(out, &buf, PLACE, r.count);
 }
 
 fn row<W: Write>(out: &mut W, line: &[u8]) {
-    if next_at(line, 0, b'\t') < line.len() {
+    if line.contains(&b'\t') {
         write_row(out, line);
     } else {
         read_row(out, line);
@@ -90,18 +74,9 @@ fn row<W: Write>(out: &mut W, line: &[u8]) {
     show(out, b"\n");
 }
 
-fn rows<W: Write>(out: &mut W, text: &[u8]) {
-    let mut at: usize = 0;
-    while at < text.len() {
-        row(out, line_at(text, at));
-        at = after_line(text, at);
-    }
-}
-
 fn main(rt: HostRuntime) {
     let mut out = rt.stdout();
-    let mut input = space();
-    let count = read_input(&mut rt.stdin(), &mut input);
+    let input = Filled::<INPUT>::read(&mut rt.stdin());
     show(
         &mut out,
         b"text\tnumber\tkind\tid\tversion\tm\tt\tp\tkeyid\tdata\tsalt\toutput\tno_room\n",
@@ -110,6 +85,8 @@ fn main(rt: HostRuntime) {
         &mut out,
         b"id\tversion\tm\tt\tp\tkeyid\tdata\tsalt\toutput\tnumber\ttext\n",
     );
-    rows(&mut out, front(&input, count));
-    warn_if_full(&mut out, &input, count);
+    for line in Lines(input.bytes()) {
+        row(&mut out, line);
+    }
+    input.warn_if_full(&mut out);
 }

@@ -6,11 +6,12 @@
 use profile::fields::{ByteString, NumberFields};
 use profile::reader::{algorithm_version, byte_string, read};
 use profile::writer::write;
+use readers::filled::{Filled, INPUT};
+use readers::lines::Lines;
+use readers::show::{show, show_number};
 use rows::buffer::front;
-use rows::input::{read_input, space, warn_if_full};
-use rows::show::{show, show_hex, show_number, show_reading, show_text};
+use rows::show::{show_hex, show_reading, show_text};
 use std::io::Write;
-use text::lines::{after_line, line_at};
 use text::place::Written;
 
 // Room for the longest byte string, an output of 64 bytes.
@@ -54,12 +55,15 @@ fn row<W: Write>(out: &mut W, s: &[u8]) {
     let r = read(s);
     show(out, s);
     show_reading(out, r);
-    show_bytes(out, s, ByteString::Keyid);
-    show_bytes(out, s, ByteString::Data);
-    show_bytes(out, s, ByteString::Salt);
-    show_bytes(out, s, ByteString::Output);
-    let a = algorithm_version(s);
-    show_number(out, a.version as u64);
+    for choice in [
+        ByteString::Keyid,
+        ByteString::Data,
+        ByteString::Salt,
+        ByteString::Output,
+    ] {
+        show_bytes(out, s, choice);
+    }
+    show_number(out, algorithm_version(s).version);
     if r.number == 0 {
         show_written(out, s, r.fields);
     } else {
@@ -68,22 +72,15 @@ fn row<W: Write>(out: &mut W, s: &[u8]) {
     show(out, b"\n");
 }
 
-fn rows<W: Write>(out: &mut W, text: &[u8]) {
-    let mut at: usize = 0;
-    while at < text.len() {
-        row(out, line_at(text, at));
-        at = after_line(text, at);
-    }
-}
-
 fn main(rt: HostRuntime) {
     let mut out = rt.stdout();
-    let mut input = space();
-    let count = read_input(&mut rt.stdin(), &mut input);
+    let input = Filled::<INPUT>::read(&mut rt.stdin());
     show(
         &mut out,
         b"string\tnumber\tkind\tid\tversion\tm\tt\tp\tkeyid\tdata\tsalt\toutput\talgorithm\twritten\n",
     );
-    rows(&mut out, front(&input, count));
-    warn_if_full(&mut out, &input, count);
+    for line in Lines(input.bytes()) {
+        row(&mut out, line);
+    }
+    input.warn_if_full(&mut out);
 }

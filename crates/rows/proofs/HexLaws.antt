@@ -1,13 +1,13 @@
 -- Laws of hex digits: how many bytes they make, the byte at an index, and bytes written one after the other until the digits or the buffer end.
 -- Assumes nothing.
-use Prim.Native.Nat.{ℕ, zero, suc, ◌+◌, ◌*◌, ◌/◌, ◌≤◌, ◌<◌}
+use Prim.Native.Nat.{ℕ, zero, suc, min, ◌+◌, ◌*◌, ◌/◌, ◌<◌}
 use mathlib.Core.Path.{◌≡◌, refl, sym, ap, ◌∙◌}
-use mathlib.Core.List.{List, [], ◌∷◌}
+use mathlib.Core.List.{List, [], ◌∷◌, ◌++◌}
 use native.Mathlib.Omega.{arith}
-use lib.ListN.{length, get_or, take}
-use lib.Seq.{take_all, length-take-le}
-use Rattle.text.specs.Place.{over, Wrote}
-use Rattle.text.proofs.Writing.{over_back}
+use lib.ListN.{length, get_or, take, drop, set}
+use Rattle.std.proofs.lemmas.Grind.{common_steps}
+use Rattle.std.proofs.lemmas.List.{take_more, take_more_set}
+use Rattle.text.specs.Place.{Wrote}
 use Rattle.rows.specs.Hex.{nibble_of, hex_bytes}
 
 pub length_hex : (s : List ℕ) → length (hex_bytes s) ≡ length s / 2
@@ -26,21 +26,20 @@ hex_at (a ∷ b ∷ s) (suc i) h =
     let q : 2 * suc i + 1 ≡ suc (suc (2 * i + 1)) = omega arith in
     rw (q, p) (hex_at s i (omega arith))
 
--- the first i bytes stand at the start of d, and no further one is there or fits
-module _ (s d d₁ : List ℕ) (i : ℕ) (fits : i ≤ length d) (left : d₁ ≡ over d 0 (take i (hex_bytes s))) where
-  pub wrote_all : i ≡ length s / 2 → Wrote (take (length d) (hex_bytes s)) d d₁ i
-  wrote_all e =
-      let n : length (hex_bytes s) ≡ i = length_hex s ∙ sym e in
-      let t = take_all (length d) (hex_bytes s) (omega arith) in
-      let u = take_all i (hex_bytes s) (omega arith) in
-      record { count_is = sym (ap length t ∙ n); left = left ∙ ap (over d 0) (u ∙ sym t) }
+-- one byte more stands at the start of d
+pub take_more_hex : (s d : List ℕ) (i : ℕ) → i < length s / 2 → i < length d → take i d ≡ take i (hex_bytes s)
+    → take (i + 1) (set d i (get_or (hex_bytes s) i 0)) ≡ take (i + 1) (hex_bytes s)
+take_more_hex s d i h fits e =
+    take_more_set d i (get_or (hex_bytes s) i 0) fits
+    ∙ ap (λ (l : List ℕ). l ++ get_or (hex_bytes s) i 0 ∷ []) e
+    ∙ sym (take_more (hex_bytes s) i 0 (omega (arith, length_hex s)))
 
-  pub wrote_full : length d ≤ i → i ≤ length s / 2 → Wrote (take (length d) (hex_bytes s)) d d₁ i
-  wrote_full e h =
-      let n = length_hex s in
-      let k : i ≡ length d = omega arith in
-      record { count_is = k ∙ sym (length-take-le (length d) (hex_bytes s) (omega arith)); left = left ∙ ap (λ (m : ℕ). over d 0 (take m (hex_bytes s))) k }
-
--- what was put at the start of a buffer can be read back there
-pub wrote_back : {t d d₁ : List ℕ} {n : ℕ} → Wrote t d d₁ n → take n d₁ ≡ t
-wrote_back {t} {d} w = rw (w.count_is, w.left) (over_back d t 0 (omega arith))
+-- the first n bytes e stand at the start of d, and no further one is there or fits
+pub wrote_front : (s d e : List ℕ) (n : ℕ) → n ≡ min (length s / 2) (length d) → length e ≡ n → take n e ≡ take n (hex_bytes s)
+    → Wrote (take (length d) (hex_bytes s)) d (e ++ drop n d) n
+wrote_front s d e n h k t =
+    let l = length_hex s in
+    let a : take n e ≡ e = grind (arith, common_steps) in
+    let b : take n (hex_bytes s) ≡ take (length d) (hex_bytes s) = grind (arith, common_steps, l) in
+    let m : length (take (length d) (hex_bytes s)) ≡ n = grind (arith, common_steps, l) in
+    record { count_is = sym m; left = grind (arith, common_steps, a, b, m, t) }

@@ -10,9 +10,5 @@ pub const PLACE: usize = 17;
 pub fn front(buf: &[u8], count: Bytes) -> &[u8]
     ensures { result.now ≡ take count.0 buf.now }
 {
-    let n = count.0;
-    if buf.len() < n {
-        return buf;
-    }
-    &buf[0..n]
+    &buf[..count.0.min(buf.len())]
 }

@@ -19,9 +19,8 @@ pub fn decimal(text: &[u8], high: u64) -> u64
     ensures { (result ≡ decimal_up_to high text.now) × (result ≤ high) }
 {
     match read_within(text, 0, high) {
-        Limited::Malformed => 0,
-        Limited::Outside => 0,
         Limited::Value(n) => n,
+        Limited::Malformed | Limited::Outside => 0,
     }
 }
 
@@ -44,9 +43,10 @@ fn version(text: &[u8]) -> Version
     ensures { result ≡ version_in text.now }
 {
     if same_text(text, b"absent") {
-        return Version::Absent;
+        Version::Absent
+    } else {
+        Version::Number(number(text))
     }
-    Version::Number(number(text))
 }
 
 // The five of them, as a writer takes them.

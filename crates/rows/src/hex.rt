@@ -4,19 +4,14 @@ ghost use Rattle.text.specs.Place.{Wrote};
 ghost use Rattle.rows.specs.Hex.{nibble_of, hex_bytes, bytes_at};
 
 use crate::columns::column;
+use readers::filled::Filled;
 use text::units::Bytes;
 
 // Room for a byte string: more than any limit, so that one byte too many reaches a writer.
 const ROOM: usize = 80;
 
-// The bytes of a column: the first `count` of the array.
-#[derive(Clone, Copy)]
-pub struct HexColumn {
-    pub array: [u8; ROOM],
-    pub count: Bytes,
-}
-
 // The value of a hex digit. Free answer: 0 for any other byte.
+#[tactic(auto, unfolding(crate::specs::Hex::nibble_of))]
 fn nibble(c: u8) -> u8
     ensures { (result ≡ nibble_of c) × (result < 16) }
 {
@@ -31,23 +26,21 @@ fn nibble(c: u8) -> u8
 pub fn decode_hex(text: &[u8], buf: &mut [u8]) -> Bytes
     ensures { Wrote (take (length buf.old) (hex_bytes text.now)) buf.old buf.new result.0 }
 {
-    let pairs = text.len() / 2;
-    let mut i: usize = 0;
-    while i < pairs {
-        if buf.len() <= i {
-            return Bytes(i);
-        }
-        buf[i] = nibble(text[2 * i]) * 16 + nibble(text[2 * i + 1]);
-        i += 1;
+    let count = (text.len() / 2).min(buf.len());
+    for (i, byte) in buf[..count].iter_mut().enumerate() {
+        *byte = nibble(text[2 * i]) * 16 + nibble(text[2 * i + 1]);
     }
-    Bytes(i)
+    Bytes(count)
 }
 
 // The bytes of a column of hex digits, at most 80. Free answer: what stands past them in the array.
-pub fn hex_column(line: &[u8], index: usize) -> HexColumn
-    ensures { (result.count.0 ≡ length (bytes_at line.now index)) × (take result.count.0 result.array ≡ bytes_at line.now index) }
+pub fn hex_column(line: &[u8], index: usize) -> Filled<ROOM>
+    ensures { (result.count ≡ length (bytes_at line.now index)) × (take result.count result.array ≡ bytes_at line.now index) }
 {
     let mut array = [0u8; ROOM];
     let count = decode_hex(column(line, index), &mut array);
-    HexColumn { array, count }
+    Filled {
+        array,
+        count: count.0,
+    }
 }

@@ -1,64 +1,46 @@
 // Answers on standard output, each column after its tab.
 use grammar::places::{Span, part};
 use profile::fields::Reading;
+use readers::show::{show, show_number};
 use std::io::Write;
 use table::version::Version;
 use text::units::Chars;
 
-// A write that fails is passed over: what is missing shows beside the stored output.
-pub fn show<W: Write>(out: &mut W, text: &[u8]) {
-    let _ = out.write_all(text);
-}
-
-pub fn show_number<W: Write>(out: &mut W, n: u64) {
-    show(out, b"\t");
-    let _ = write!(out, "{n}");
-}
-
 fn show_version<W: Write>(out: &mut W, v: Version) {
     match v {
         Version::Absent => show(out, b"\tabsent"),
-        Version::Number(n) => show_number(out, n as u64),
+        Version::Number(n) => show_number(out, n),
     }
 }
 
 // number, kind, id, version, m, t, p
 pub fn show_reading<W: Write>(out: &mut W, r: Reading) {
     let fields = r.fields;
-    let v = fields.version;
-    show_number(out, r.number as u64);
-    show_number(out, r.kind as u64);
-    show_number(out, fields.id as u64);
-    show_version(out, v);
-    show_number(out, fields.m as u64);
-    show_number(out, fields.t as u64);
-    show_number(out, fields.p as u64);
-}
-
-fn show_byte<W: Write>(out: &mut W, b: u8) {
-    let _ = write!(out, "{b:02x}");
+    for n in [r.number, r.kind, fields.id] {
+        show_number(out, n);
+    }
+    show_version(out, fields.version);
+    for n in [fields.m, fields.t, fields.p] {
+        show_number(out, n);
+    }
 }
 
 // The bytes as hex digits.
 pub fn show_hex<W: Write>(out: &mut W, bytes: &[u8]) {
     show(out, b"\t");
     for b in bytes {
-        show_byte(out, *b);
+        let _ = write!(out, "{b:02x}");
     }
-}
-
-fn show_decimal<W: Write>(out: &mut W, n: u8) {
-    let _ = write!(out, "{n}");
 }
 
 // Numbers, parted by commas.
 pub fn show_numbers<W: Write>(out: &mut W, numbers: &[u8]) {
     show(out, b"\t");
     for (i, n) in numbers.iter().enumerate() {
-        if 0 < i {
+        if i > 0 {
             show(out, b",");
         }
-        show_decimal(out, *n);
+        let _ = write!(out, "{n}");
     }
 }
 

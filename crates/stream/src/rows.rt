@@ -1,163 +1,158 @@
 // Rows of the listing, part by part of the input.
-ghost use Rattle.std.specs.Prelude.{◌≤◌, ◌≡◌, true, false, length, take};
+ghost use Rattle.std.specs.Prelude.{◌≤◌, ◌≡◌, ◌↔◌, true, false, length, take, OnOk, IsErr};
 ghost use Rattle.std.specs.Io.KnownBytes.{Appends};
 
 use accounts::limits::MOST_KEPT;
 use accounts::listing::{Listed, end, next};
-use std::io::Write;
-use text::order::min;
+use accounts::row::write_header;
+use std::io;
+use std::io::{Error, Write};
 
-// The bytes kept of the unfinished line, its number, the bytes of output that wait, and whether every write so far succeeded.
-#[derive(Clone, Copy)]
-pub struct State {
+// A listing that goes to a writer.
+#[derive(Drop)]
+pub struct Rows<const N: usize> {
+    // The bytes kept of the unfinished line, and its number.
+    pub array: [u8; MOST_KEPT],
     pub kept: usize,
     pub line: u64,
+    // The bytes of output that wait.
+    pub out: [u8; N],
     pub used: usize,
+    // Whether every write so far succeeded.
     pub open: bool,
+    pub ghost waits: { used ≤ length out },
 }
 
-// The bytes that wait after `count` more; never past the buffer.
-fn waiting(out: &[u8], used: usize, count: usize) -> usize
-    ensures { result ≤ length out.now }
-{
-    let waits = min(used, out.len());
-    waits + min(count, out.len() - waits)
-}
-
-// Writes what waits; false where that fails.
-fn flush<W: Write>(writer: &mut W, out: &[u8], used: usize) -> bool
-    ensures { result ≡ true → Appends (W.contents writer.old) (W.contents writer.new) (take used out.now) }
-{
-    let n = min(used, out.len());
-    writer.write_all(&out[0..n]).is_ok()
-}
-
-// Writes what waits, for a row that doesn't fit behind it; false also where nothing waits: the row fits no emptier buffer.
-fn make_room<W: Write>(writer: &mut W, out: &[u8], used: usize) -> bool {
-    if used == 0 {
-        return false;
-    }
-    flush(writer, out, used)
-}
-
-// take_part, where every write so far succeeded.
-fn take_rows<W: Write>(
-    writer: &mut W,
-    array: &mut [u8; MOST_KEPT],
-    out: &mut [u8],
-    part: &[u8],
-    begun: State,
-) -> State
-    ensures { result.used ≤ length out.old }
-{
-    let mut kept = begun.kept;
-    let mut line = begun.line;
-    let mut used = begun.used;
-    let mut from: usize = 0;
-    for _ in 0..u64::MAX {
-        match next(array, kept, line, part, from, out, used) {
-            Listed::Row {
-                place,
-                count,
-                line: number,
-            } => {
-                used = waiting(&out[..], used, count.0);
-                from = place;
-                kept = 0;
-                line = number;
-            }
-            Listed::UsedUp { kept: more } => {
-                return State {
-                    kept: more,
-                    line,
-                    used: min(used, out.len()),
-                    open: true,
-                };
-            }
-            Listed::NoRoom => {
-                if !make_room(writer, &out[..], used) {
-                    return State {
-                        kept,
-                        line,
-                        used: 0,
-                        open: false,
-                    };
-                }
-                used = 0;
-            }
+impl<const N: usize> Rows<N> {
+    // Of no input yet: the header waits.
+    pub fn new() -> Rows<N>
+        ensures { result.«open» ≡ true }
+    {
+        let mut out = [0; N];
+        let header = write_header(&mut out, 0);
+        Rows {
+            array: [0; MOST_KEPT],
+            kept: 0,
+            line: 1,
+            out,
+            used: header.count.0.min(N),
+            open: true,
         }
     }
-    State {
-        kept,
-        line,
-        used: min(used, out.len()),
-        open: true,
-    }
-}
 
-// The rows of the lines that end in a part; when no more fit, those that wait are written. After a failed write nothing more is written, and
-// so where a row doesn't fit the whole buffer: 36 bytes are enough.
-pub fn take_part<W: Write>(
-    writer: &mut W,
-    array: &mut [u8; MOST_KEPT],
-    out: &mut [u8],
-    part: &[u8],
-    begun: State,
-) -> State
-    ensures waits { result.used ≤ length out.old }
-    ensures stays_closed { begun.«open» ≡ false → result.«open» ≡ false }
-    ensures writes_no_more { begun.«open» ≡ false → writer.new ≡ writer.old }
-{
-    if begun.open {
-        return take_rows(writer, array, out, part, begun);
+    // An error where an earlier write failed.
+    fn check_open(&self) -> io::Result<()>
+        ensures { IsErr result ↔ (self.now.«open» ≡ false) }
+    {
+        if self.open {
+            Ok(())
+        } else {
+            Err(Error::other("an earlier write failed"))
+        }
     }
-    State {
-        kept: begun.kept,
-        line: begun.line,
-        used: 0,
-        open: false,
-    }
-}
 
-// What waits, without the unfinished line; whether every write succeeded.
-pub fn flush_rows<W: Write>(writer: &mut W, out: &[u8], state: State) -> bool
-    ensures not_forgotten { state.«open» ≡ false → result ≡ false }
-    ensures writes_no_more { state.«open» ≡ false → writer.new ≡ writer.old }
-    ensures written { result ≡ true → Appends (W.contents writer.old) (W.contents writer.new) (take state.used out.now) }
-{
-    if !state.open {
-        return false;
+    // Writes what waits.
+    fn flush<W: Write>(&mut self, writer: &mut W) -> io::Result<()>
+        ensures { OnOk result (Appends (W.contents writer.old) (W.contents writer.new) (take self.old.used self.old.out)) }
+    {
+        writer.write_all(&self.out[..self.used])?;
+        self.used = 0;
+        Ok(())
     }
-    flush(writer, out, state.used)
-}
 
-// The row of the last line, and what waits; whether every write succeeded. A row that doesn't fit goes into the emptied buffer.
-pub fn finish<W: Write>(
-    writer: &mut W,
-    array: &[u8; MOST_KEPT],
-    out: &mut [u8],
-    state: State,
-) -> bool
-    ensures size { length out.new ≡ length out.old }
-    ensures not_forgotten { state.«open» ≡ false → result ≡ false }
-    ensures writes_no_more { state.«open» ≡ false → writer.new ≡ writer.old }
-{
-    if !state.open {
-        return false;
+    // Writes what waits, for a row that doesn't fit behind it. An error also where nothing waits: the row fits no emptier buffer.
+    fn make_room<W: Write>(&mut self, writer: &mut W) -> io::Result<()> {
+        if self.used == 0 {
+            return Err(Error::other("a row doesn't fit the buffer"));
+        }
+        self.flush(writer)
     }
-    let used = state.used;
-    let w = end(array, state.kept, state.line, out, used);
-    if w.number == 0 {
-        let count = w.count;
-        return flush(writer, &out[..], waiting(&out[..], used, count.0));
+
+    // `count` bytes more wait; never past the buffer.
+    fn wait(&mut self, count: usize) {
+        self.used = self.used.saturating_add(count).min(N);
     }
-    if !make_room(writer, &out[..], used) {
-        return false;
+
+    // take_part, where every write so far succeeded.
+    fn take_rows<W: Write>(&mut self, writer: &mut W, part: &[u8]) -> io::Result<()> {
+        let mut from = 0;
+        for _ in 0..u64::MAX {
+            match next(
+                &mut self.array,
+                self.kept,
+                self.line,
+                part,
+                from,
+                &mut self.out,
+                self.used,
+            ) {
+                Listed::Row { place, count, line } => {
+                    self.wait(count.0);
+                    self.kept = 0;
+                    self.line = line;
+                    from = place;
+                }
+                Listed::UsedUp { kept } => {
+                    self.kept = kept;
+                    return Ok(());
+                }
+                Listed::NoRoom => self.make_room(writer)?,
+            }
+        }
+        Ok(())
     }
-    let again = end(array, state.kept, state.line, out, 0);
-    if again.number != 0 {
-        return false;
+
+    // The rows of the lines that end in a part; when no more fit, those that wait are written. After a failed write nothing more is written,
+    // and so where a row doesn't fit the whole buffer: 36 bytes are enough.
+    pub fn take_part<W: Write>(&mut self, writer: &mut W, part: &[u8]) -> io::Result<()>
+        ensures waits { self.new.used ≤ length self.new.out }
+        ensures not_forgotten { self.old.«open» ≡ false → IsErr result }
+        ensures stays_closed { self.old.«open» ≡ false → self.new.«open» ≡ false }
+        ensures closes { IsErr result → self.new.«open» ≡ false }
+        ensures writes_no_more { self.old.«open» ≡ false → writer.new ≡ writer.old }
+    {
+        self.check_open()?;
+        let taken = self.take_rows(writer, part);
+        self.open = taken.is_ok();
+        taken
     }
-    let count = again.count;
-    flush(writer, &out[..], waiting(&out[..], 0, count.0))
+
+    // What waits, without the unfinished line.
+    pub fn flush_rows<W: Write>(&mut self, writer: &mut W) -> io::Result<()>
+        ensures not_forgotten { self.old.«open» ≡ false → IsErr result }
+        ensures closes { IsErr result → self.new.«open» ≡ false }
+        ensures writes_no_more { self.old.«open» ≡ false → writer.new ≡ writer.old }
+        ensures written { OnOk result (Appends (W.contents writer.old) (W.contents writer.new) (take self.old.used self.old.out)) }
+    {
+        self.check_open()?;
+        let written = self.flush(writer);
+        self.open = written.is_ok();
+        written
+    }
+
+    // finish, where every write so far succeeded. A row that doesn't fit goes into the emptied buffer.
+    fn end_rows<W: Write>(&mut self, writer: &mut W) -> io::Result<()> {
+        let mut last = end(&self.array, self.kept, self.line, &mut self.out, self.used);
+        if last.number != 0 {
+            self.make_room(writer)?;
+            last = end(&self.array, self.kept, self.line, &mut self.out, 0);
+        }
+        if last.number != 0 {
+            return Err(Error::other("a row doesn't fit the buffer"));
+        }
+        self.wait(last.count.0);
+        self.flush(writer)
+    }
+
+    // The row of the last line, and what waits.
+    pub fn finish<W: Write>(&mut self, writer: &mut W) -> io::Result<()>
+        ensures not_forgotten { self.old.«open» ≡ false → IsErr result }
+        ensures closes { IsErr result → self.new.«open» ≡ false }
+        ensures writes_no_more { self.old.«open» ≡ false → writer.new ≡ writer.old }
+    {
+        self.check_open()?;
+        let ended = self.end_rows(writer);
+        self.open = ended.is_ok();
+        ended
+    }
 }
