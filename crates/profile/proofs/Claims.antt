@@ -20,7 +20,7 @@ use Rattle.profile.specs.Entries.{kind_of, reading, decoded, writing}
 use Rattle.profile.specs.Spelling.{Demand3, rule_spelling, EntriesDemand3, EntriesAgree}
 use Rattle.profile.specs.Claims.{profile_rules, profile_entries, Lanes, Lengths}
 use Rattle.profile.specs.Sound.{sound}
-use Rattle.profile.specs.declared.fields.Reading.{Reading}
+use Rattle.profile.specs.Entries.{Reading}
 use Rattle.profile.proofs.ReadLaws.{reading_number, reading_fields}
 use Rattle.profile.proofs.SoundLaws.{at_id, edition_two-sound}
 use Rattle.profile.proofs.Written.{pieces_of, written}

@@ -17,8 +17,9 @@ use Rattle.b64.specs.B64.{canonical, decode, encode}
 use Rattle.b64.proofs.B64Laws.{encode_decode, decode_encode, canonical_encode, bytes_decode, length_encode}
 use Rattle.decimal.specs.Decimal.{digits}
 use Rattle.decimal.specs.Numerals.{limited_reading, limited_number, limited_value}
-use Rattle.decimal.specs.declared.reader.Limited.{Limited}
-use Rattle.decimal.specs.declared.reader.Limited.TheVariants.{Malformed, Outside, Value}
+use Rattle.decimal.specs.declared.error.DecimalError.{DecimalError}
+use Rattle.decimal.specs.declared.error.DecimalError.TheVariants.{Malformed, Outside}
+use Rattle.std.specs.Prelude.{Result, Ok, Err}
 use Rattle.decimal.proofs.DecimalLaws.{by_tens, digits_small, digits_step, length_pos, length_digits}
 use Rattle.decimal.proofs.NumeralLaws.{limited_digits, digits_limited}
 use Rattle.grammar.specs.Bytes.{is_value_byte, is_text}
@@ -40,11 +41,11 @@ use Rattle.profile.specs.Sound.{sound_number, text_within, sound_versions}
 -- ---- texts of numbers, over any limits
 
 -- a text that is read says a number within the limits, and is that number's text
-limited_is : (low high : ℕ) (t : List ℕ) (r : Limited) → limited_reading low high t ≡ r → eqb (limited_number r) 0 ≡ true
+limited_is : (low high : ℕ) (t : List ℕ) (r : Result ℕ DecimalError) → limited_reading low high t ≡ r → eqb (limited_number r) 0 ≡ true
     → (within low high (limited_value r) ≡ true) × (digits (limited_value r) ≡ t)
-limited_is low high t Malformed q e = absurd (false≢true e)
-limited_is low high t Outside q e = absurd (false≢true e)
-limited_is low high t (Value n) q e = let p = digits_limited low high t n q in (to_within low high n p.1 p.2, sym p.0)
+limited_is low high t (Err Malformed) q e = absurd (false≢true e)
+limited_is low high t (Err Outside) q e = absurd (false≢true e)
+limited_is low high t (Ok n) q e = let p = digits_limited low high t n q in (to_within low high n p.1 p.2, sym p.0)
 
 limited_back : (low high : ℕ) (t : List ℕ) → eqb (limited_number (limited_reading low high t)) 0 ≡ true
     → (within low high (limited_value (limited_reading low high t)) ≡ true) × (digits (limited_value (limited_reading low high t)) ≡ t)

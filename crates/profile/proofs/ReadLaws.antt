@@ -23,7 +23,7 @@ use Rattle.grammar.specs.Limits.{longest_output}
 use Rattle.grammar.specs.Pieces.{OptionalText, pieces, piece_in}
 use Rattle.grammar.specs.Items.{Item, items, items_of}
 use Rattle.grammar.specs.Rules.{is_item, is_output, grammar_rows, grammar_number}
-use Rattle.grammar.specs.Layout.{places_of, span_of, layout}
+use Rattle.grammar.specs.Layout.{places_of, span_of, layout, LayoutAnswer, layout_answer}
 use Rattle.grammar.specs.declared.pieces.Layout.{Layout}
 use Rattle.grammar.specs.Parts.{part_at, text_of}
 use Rattle.grammar.specs.declared.places.Piece.{Piece}
@@ -36,10 +36,11 @@ use Rattle.table.specs.declared.limits.BytesRule.{BytesRule}
 use Rattle.table.specs.declared.version.Version.{Version}
 use Rattle.profile.specs.Fields.{chosen, is_decoded_size, is_bytes, read_bytes, read_version}
 use Rattle.profile.specs.Reader.{parameter_names, named_values, unmatched_items, value_at, rows_for, profile_rows, reader_number, fields_of}
-use Rattle.profile.specs.Entries.{refused_reading, kind_of, reading, decoded}
+use Rattle.profile.specs.Entries.{refused_reading, kind_number, kind_of, read_answer, reading, decoded}
 use Rattle.profile.specs.ReaderSteps.{span_text, span_texts, ValuesAre, Answers, costs_read, chosen_text, ParsedIs}
 use Rattle.profile.specs.declared.fields.NumberFields.{NumberFields}
-use Rattle.profile.specs.declared.fields.Reading.{Reading}
+use Rattle.profile.specs.declared.fields.Kind.{Kind}
+use Rattle.profile.specs.Entries.{Reading}
 use Rattle.profile.specs.declared.fields.ByteString.{ByteString}
 use Rattle.profile.specs.declared.fields.ByteString.TheVariants.{Keyid, Data, Salt, Output}
 use Rattle.profile.specs.declared.judge.Costs.{Costs}
@@ -71,21 +72,15 @@ unfolding reading
 reading-refused e s n q z = rw (q, ne_eqb n 0 z)
 
 -- by the layout that the grammar gives
-module _ (s : List ℕ) (l : Layout) (k : l ≡ layout s) where
-  grammar_is : l.number ≡ grammar_number s
-  grammar_is = ap (λ (x : Layout). x.number) k ∙ layout_number s
+pub grammar-refused : (s : List ℕ) (e : Refusal) → layout_answer (Err e) ≡ layout s → ParsedIs s (Err e)
+grammar-refused s e k =
+    let n : number_of e ≡ grammar_number s = ap (λ (x : LayoutAnswer). x.number) k ∙ layout_number s in
+    record { number_is = sym (answer_refused edition_two s (number_of e) (sym n) (never_zero e)); accepted = tt }
 
-  grammar_small : l.number ≤ 7
-  grammar_small = rw grammar_is (grammar_most s)
-
-  pub grammar-refused : (e : Refusal) → (l.number ≤ 7 → number_of e ≡ l.number) → ParsedIs s (Err e)
-  grammar-refused e h =
-      record { number_is = sym (answer_refused edition_two s (number_of e) (sym (h grammar_small ∙ grammar_is)) (never_zero e)); accepted = tt }
-
-  pub grammar-accepted : (l.number ≤ 7 → 0 ≡ l.number) → (grammar_number s ≡ 0) × (l.places ≡ places_of (pieces s))
-  grammar-accepted h =
-      let z : grammar_number s ≡ 0 = sym (h grammar_small ∙ grammar_is) in
-      (z, ap (λ (x : Layout). x.places) (k ∙ layout-accepted s z))
+pub grammar-accepted : (s : List ℕ) (l : Layout) → layout_answer (Ok l) ≡ layout s → (grammar_number s ≡ 0) × (l.places ≡ places_of (pieces s))
+grammar-accepted s l k =
+    let z : grammar_number s ≡ 0 = sym (ap (λ (x : LayoutAnswer). x.number) k ∙ layout_number s) in
+    (z, ap (λ (x : LayoutAnswer). x.places) (k ∙ layout-accepted s z))
 
 -- ---- the optional texts at the places of the pieces
 
@@ -193,19 +188,19 @@ module _ (s : List ℕ) (z : grammar_number s ≡ 0) (places : Places) (e : plac
   parsed_refused e d = record { number_is = judged_number (Err e) d; accepted = tt }
 
   -- the numbers and the kind of an accepted string
-  accepted-reading : (c : Costs) → Judged (Ok c) → (k : ℕ) → ((t : List ℕ) → k ≡ kind_of (span_text t places.salt) (span_text t places.output))
-      → ◌≡◌ {A = Reading} (record { number = 0; kind = k; fields = record { id = id; version = version; m = c.m; t = c.t; p = c.p } }) (reading edition_two s)
+  accepted-reading : (c : Costs) → Judged (Ok c) → (k : Kind) → ((t : List ℕ) → kind_number k ≡ kind_of (span_text t places.salt) (span_text t places.output))
+      → ◌≡◌ {A = Reading} (record { number = 0; kind = kind_number k; fields = record { id = id; version = version; m = c.m; t = c.t; p = c.p } }) (reading edition_two s)
   unfolding reading fields_of
   accepted-reading c d k kinds =
       let a : reader_number edition_two s ≡ 0 = sym (judged_number (Ok c) d) in
       let n : c ≡ costs_read (profile_of edition_two (id_of edition_two (pieces s).id)) (named_values parameter_names (items_of (pieces s).params)) =
       d.value_is ∙ (λ i. costs_read (profile_is i) (values_are i)) in
-      let o : k ≡ kind_of (pieces s).salt (pieces s).output = kinds s ∙ (λ i. kind_of (salt_is i) (output_is i)) in
+      let o : kind_number k ≡ kind_of (pieces s).salt (pieces s).output = kinds s ∙ (λ i. kind_of (salt_is i) (output_is i)) in
       rw a (λ i. record { number = 0; kind = o i; fields = record { id = id_is i; version = version_is i; m = (n i).m; t = (n i).t; p = (n i).p } })
 
   -- the texts of the four byte strings of an accepted string
-  accepted_texts : reader_number edition_two s ≡ 0 → (k : ℕ) (n : NumberFields) (c : ByteString)
-      → let x : ParsedString = record { kind = k; fields = n; places = places; values = values } in
+  accepted_texts : reader_number edition_two s ≡ 0 → (k : Kind) (n : NumberFields) (c : ByteString)
+      → let x : ParsedString = record { record = record { kind = k; fields = n }; places = places; values = values } in
       (canonical (chosen_text s x c) ≡ true) × (decode (chosen_text s x c) ≡ chosen c (fields_of edition_two s))
   unfolding fields_of
   accepted_texts a k n c = pick c
@@ -237,7 +232,7 @@ module _ (s : List ℕ) (z : grammar_number s ≡ 0) (places : Places) (e : plac
       at k = ap (λ (l : List OptionalText). value_at l k) (ap (λ (t : List ℕ). span_texts t values) (sym q) ∙ values_are)
 
       x : ParsedString
-      x = record { kind = k; fields = n; places = places; values = values }
+      x = record { record = record { kind = k; fields = n }; places = places; values = values }
 
       pick : (c : ByteString) → (canonical (chosen_text s x c) ≡ true) × (decode (chosen_text s x c) ≡ chosen c (fields_of edition_two s))
       pick Keyid = by _ (value_at vs 3) (at 3) (canonical_optional column.keyid (value_at vs 3) keyid_row)
@@ -245,8 +240,8 @@ module _ (s : List ℕ) (z : grammar_number s ≡ 0) (places : Places) (e : plac
       pick Salt = by _ (pieces s).salt salt_is (canonical_optional column.salt (pieces s).salt salt_row)
       pick Output = by _ (pieces s).output output_is (canonical_output (pieces s).output (accepted_rows s z).1.1.1.1.1.0)
 
-  pub parsed_accepted : (c : Costs) → Judged (Ok c) → (k : ℕ) → ((t : List ℕ) → k ≡ kind_of (span_text t places.salt) (span_text t places.output))
-      → ParsedIs s (Ok (record { kind = k; fields = record { id = id; version = version; m = c.m; t = c.t; p = c.p }; places = places; values = values }))
+  pub parsed_accepted : (c : Costs) → Judged (Ok c) → (k : Kind) → ((t : List ℕ) → kind_number k ≡ kind_of (span_text t places.salt) (span_text t places.output))
+      → ParsedIs s (Ok (record { record = record { kind = k; fields = record { id = id; version = version; m = c.m; t = c.t; p = c.p } }; places = places; values = values }))
   parsed_accepted c d k kinds =
       record {
         number_is = judged_number (Ok c) d;

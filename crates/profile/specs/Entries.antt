@@ -1,8 +1,10 @@
 -- 'For every input, good or bad, a public entry's contract determines everything it hands back and each byte of lent memory': the outcomes that
 -- the contracts name.
 -- Assumes nothing.
-use Rattle.std.specs.Prelude.{ℕ, cond, List, eqb}
+use Rattle.std.specs.Prelude.{ℕ, cond, List, eqb, Result, Ok, Err}
 use Rattle.std.proofs.Math.Option.{none, some}
+use Rattle.refusals.specs.Numbers.{number_of}
+use Rattle.refusals.specs.declared.Refusal.{Refusal}
 use Rattle.text.specs.Place.{Outcome, put_after}
 use Rattle.grammar.specs.Pieces.{OptionalText, pieces}
 use Rattle.table.specs.Limits.{Profile, profile_of}
@@ -13,13 +15,20 @@ use Rattle.profile.specs.Reader.{reader_number, fields_of}
 use Rattle.profile.specs.Writer.{writer_number, formatted, short_fields, short_writer_number}
 use Rattle.profile.specs.declared.fields.NumberFields.{NumberFields}
 use Rattle.profile.specs.declared.fields.ByteString.{ByteString}
-use Rattle.profile.specs.declared.fields.Reading.{Reading}
-use Rattle.profile.specs.declared.fields.AlgorithmVersion.{AlgorithmVersion}
+use Rattle.profile.specs.declared.fields.Kind.{Kind}
+use Rattle.profile.specs.declared.fields.Kind.TheVariants.{Parameters, Salt, Hash}
+use Rattle.profile.specs.declared.fields.Record.{Record}
 
 -- ---- the profile reader
 
 abbrev pub no_fields : NumberFields
 no_fields = record { id = 0; version = Absent; m = 0; t = 0; p = 0 }
+
+-- 0, the kind and the number fields; or the number of bad input and an all-zero record
+pub record Reading : Type 0 where
+  pub number : ℕ
+  pub kind : ℕ
+  pub fields : NumberFields
 
 -- all-zero, version absent
 abbrev pub refused_reading : ℕ → Reading
@@ -34,6 +43,17 @@ kind_of none (some o) = 3
 kind_of (some s) none = 2
 kind_of (some s) (some o) = 3
 
+-- 01's number for each kind
+abbrev pub kind_number : Kind → ℕ
+kind_number Parameters = 1
+kind_number Salt = 2
+kind_number Hash = 3
+
+-- what the entry gives, as that answer
+abbrev pub read_answer : Result Record Refusal → Reading
+read_answer (Ok r) = record { number = 0; kind = kind_number r.kind; fields = r.fields }
+read_answer (Err e) = refused_reading (number_of e)
+
 unfoldable pub reading : List Profile → List ℕ → Reading
 reading e s =
     cond (eqb (reader_number e s) 0)
@@ -46,6 +66,15 @@ reading e s =
 abbrev pub version_or : ℕ → Version → ℕ
 version_or implied Absent = implied
 version_or implied (Number n) = n
+
+-- 0 and the version, or the number of bad input and 0
+pub record AlgorithmVersion : Type 0 where
+  pub number : ℕ
+  pub version : ℕ
+
+abbrev pub version_answer : Result ℕ Refusal → AlgorithmVersion
+version_answer (Ok v) = record { number = 0; version = v }
+version_answer (Err e) = record { number = number_of e; version = 0 }
 
 -- of what a reader gave. Free answer: one made by hand goes by its fields, whatever its number is
 abbrev pub algorithm_version_of : List Profile → Reading → AlgorithmVersion

@@ -1,13 +1,13 @@
 -- 'The fields are: id, version, m, t, p, and four byte strings (keyid, data, salt, output).' How one number, one byte string and the version are
 -- read and written.
 -- Assumes nothing.
-use Rattle.std.specs.Prelude.{ℕ, Bool, true, false, cond, ◌&&◌, List, [], ◌∷◌, ◌++◌, eqb, length}
+use Rattle.std.specs.Prelude.{ℕ, Result, Bool, true, false, cond, ◌&&◌, List, [], ◌∷◌, ◌++◌, eqb, length}
 use Rattle.std.proofs.Math.Option.{none, some}
 use Rattle.text.specs.Text.{text}
 use Rattle.b64.specs.B64.{canonical, decode, encode}
 use Rattle.decimal.specs.Decimal.{digits}
 use Rattle.decimal.specs.Numerals.{limited_reading, limited_number, limited_value}
-use Rattle.decimal.specs.declared.reader.Limited.{Limited}
+use Rattle.decimal.specs.declared.error.DecimalError.{DecimalError}
 use Rattle.grammar.specs.Pieces.{OptionalText}
 use Rattle.grammar.specs.Rules.{version_reading}
 use Rattle.table.specs.Limits.{lowest, highest, default_of, is_omitted, is_size}
@@ -40,7 +40,7 @@ chosen Output f = f.output
 
 -- ---- one number, by its value's text, where there is one
 
-abbrev pub number_reading : NumberRule → List ℕ → Limited
+abbrev pub number_reading : NumberRule → List ℕ → Result ℕ DecimalError
 number_reading r t = limited_reading (lowest r) (highest r) t
 
 -- a permitted decimal, in range

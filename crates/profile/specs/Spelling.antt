@@ -10,7 +10,7 @@ use Rattle.profile.specs.Fields.{FieldSet, chosen, write_bytes}
 use Rattle.profile.specs.Writer.{OfBytes}
 use Rattle.profile.specs.Entries.{kind_of}
 use Rattle.profile.specs.declared.fields.ByteString.{ByteString}
-use Rattle.profile.specs.declared.fields.Reading.{Reading}
+use Rattle.profile.specs.Entries.{Reading}
 
 -- a way to write fields as texts: which texts are accepted, the fields that each carries, which fields are permitted, and the text that they
 -- are written to

@@ -1,6 +1,6 @@
 // The fields of a string. The four byte strings travel beside the number fields.
 ghost use Rattle.std.specs.Prelude.{◌≡◌};
-ghost use Rattle.profile.specs.Entries.{refused_reading};
+ghost use Rattle.profile.specs.Entries.{kind_number};
 
 use table::version::Version;
 
@@ -24,37 +24,26 @@ pub enum ByteString {
     Output,
 }
 
-// What the profile reader gives: 0, the kind (1 parameters, 2 salt, 3 hash) and the number fields; or the refusal's number and zeros,
-// version absent.
-#[derive(Clone, Copy)]
-pub struct Reading {
-    pub number: u8,
-    pub kind: u8,
-    pub fields: NumberFields,
+// The kind of a string: parameters alone, with a salt, or with an output too.
+#[derive(Clone, Copy, Debug, PartialEq, Eq)]
+pub enum Kind {
+    Parameters = 1,
+    Salt = 2,
+    Hash = 3,
 }
 
-impl Reading {
-    // The answer to a string that is refused.
-    pub fn refused(number: u8) -> Reading
-        ensures { result ≡ refused_reading number }
+impl Kind {
+    // Its number in the papers.
+    pub fn number(self) -> u8
+        ensures { result ≡ kind_number self }
     {
-        Reading {
-            number,
-            kind: 0,
-            fields: NumberFields {
-                id: 0,
-                version: Version::Absent,
-                m: 0,
-                t: 0,
-                p: 0,
-            },
-        }
+        self as u8
     }
 }
 
-// Which algorithm version a string means: 0 and the version, or the refusal's number and 0.
+// What the profile reader gives of a string that is accepted.
 #[derive(Clone, Copy)]
-pub struct AlgorithmVersion {
-    pub number: u8,
-    pub version: u32,
+pub struct Record {
+    pub kind: Kind,
+    pub fields: NumberFields,
 }

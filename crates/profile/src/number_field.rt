@@ -9,7 +9,7 @@ ghost use Rattle.profile.specs.ReaderSteps.{span_text, Answers};
 ghost use Rattle.profile.specs.PieceTexts.{tagged, tagged_length};
 
 use crate::tagged::{decimal_len, put_decimal};
-use decimal::reader::{Limited, read_within};
+use decimal::reader::read_within;
 use grammar::places::{Span, part};
 use refusals::Refusal;
 use table::limits::NumberRule;
@@ -32,14 +32,12 @@ pub fn missing_or_unknown(rule: NumberRule, span: Span) -> bool
 fn written(rule: NumberRule, text: &[u8]) -> Result<u32, Refusal>
     ensures { Answers (number_row rule (some text.now)) (read_number rule (some text.now)) result }
 {
-    match read_within(
+    let n = read_within(
         text,
         u64::from(lowest_of(rule)),
         u64::from(highest_of(rule)),
-    ) {
-        Limited::Value(n) => Ok(n as u32),
-        Limited::Malformed | Limited::Outside => Err(Refusal::WrongNumber),
-    }
+    )?;
+    Ok(n as u32)
 }
 
 // A number parameter: as written or, where it is left out, what its rule gives.

@@ -1,8 +1,7 @@
 // The profile reader: kind and number fields of a string, or the number of the row that refuses it; and the byte-string entry.
-ghost use Rattle.std.specs.Prelude.{ℕ, ◌≤◌, ◌≡◌, List, [], true, cond};
-ghost use Rattle.refusals.specs.Numbers.{number};
+ghost use Rattle.std.specs.Prelude.{ℕ, ◌≡◌, List, [], true, cond};
 ghost use Rattle.text.specs.Text.{all};
-ghost use Rattle.text.specs.Place.{outcome};
+ghost use Rattle.text.specs.Place.{bytes_answered};
 ghost use Rattle.grammar.specs.Parts.{text_of};
 ghost use Rattle.grammar.specs.Pieces.{pieces};
 ghost use Rattle.grammar.specs.Items.{items};
@@ -10,22 +9,20 @@ ghost use Rattle.grammar.specs.Rules.{is_item, grammar_number};
 ghost use Rattle.grammar.specs.Layout.{places_of};
 ghost use Rattle.table.specs.Limits.{edition_two};
 ghost use Rattle.profile.specs.Fields.{read_version};
-ghost use Rattle.profile.specs.Entries.{kind_of, version_or, algorithm_version_of, reading, algorithm_version, decoded};
+ghost use Rattle.profile.specs.Entries.{kind_number, kind_of, version_or, version_answer, algorithm_version_of, read_answer, reading, algorithm_version, decoded};
 ghost use Rattle.profile.specs.ReaderSteps.{span_text, ValuesAre, chosen_text, ParsedIs};
 
-use crate::fields::{AlgorithmVersion, ByteString, NumberFields, Reading};
+use crate::fields::{ByteString, Kind, NumberFields, Record};
 use crate::judge::judge;
 use crate::parsed::ParsedString;
 use crate::values::{Values, no_values, values_in};
 use b64::decoder::decode;
-use decimal::reader::Limited;
 use grammar::places::{Places, Span, part};
 use grammar::version::version_number;
 use refusals::Refusal;
 use table::columns::column_of;
 use table::ids::id_number;
 use table::version::Version;
-use text::place::Decoded;
 use text::units::Bytes;
 
 // The version of a version piece that keeps its rule, or absent.
@@ -36,21 +33,20 @@ fn version_in(s: &[u8], span: Span) -> Version
         return Version::Absent;
     }
     match version_number(part(s, span)) {
-        Limited::Value(n) => Version::Number(n as u32),
-        Limited::Malformed | Limited::Outside => Version::Number(0),
+        Ok(n) => Version::Number(n as u32),
+        Err(_) => Version::Number(0),
     }
 }
 
-// 1 a parameter string, 2 a salt string, 3 a hash string.
-fn kind_of(salt: Span, output: Span) -> u8
-    ensures { (s : List ℕ) → result ≡ kind_of (span_text s salt) (span_text s output) }
+fn kind_of(salt: Span, output: Span) -> Kind
+    ensures { (s : List ℕ) → kind_number result ≡ kind_of (span_text s salt) (span_text s output) }
 {
     if output.at != 0 {
-        3
+        Kind::Hash
     } else if salt.at != 0 {
-        2
+        Kind::Salt
     } else {
-        1
+        Kind::Parameters
     }
 }
 
@@ -95,73 +91,50 @@ fn read_pieces(s: &[u8], places: Places) -> Result<ParsedString, Refusal>
         places.output,
     )?;
     Ok(ParsedString {
-        kind: kind_of(places.salt, places.output),
-        fields: NumberFields {
-            id,
-            version,
-            m: costs.m,
-            t: costs.t,
-            p: costs.p,
+        record: Record {
+            kind: kind_of(places.salt, places.output),
+            fields: NumberFields {
+                id,
+                version,
+                m: costs.m,
+                t: costs.t,
+                p: costs.p,
+            },
         },
         places,
         values,
     })
 }
 
-// The grammar's number as a refusal.
-fn grammar_answer(n: u8) -> Result<(), Refusal>
-    ensures { n ≤ 7 → number result ≡ n }
-{
-    match n {
-        0 => Ok(()),
-        1 => Err(Refusal::BadString),
-        2 => Err(Refusal::BadId),
-        3 => Err(Refusal::BadVersion),
-        4 => Err(Refusal::BadParameters),
-        5 => Err(Refusal::BadSalt),
-        6 => Err(Refusal::BadOutput),
-        _ => Err(Refusal::TooManyPieces),
-    }
-}
-
 // One reading of any string.
 fn parse(s: &[u8]) -> Result<ParsedString, Refusal>
     ensures { ParsedIs s.now result }
 {
-    let layout = grammar::pieces::read(s);
-    grammar_answer(layout.number)?;
+    let layout = grammar::pieces::read(s)?;
     read_pieces(s, layout.places)
 }
 
-// The profile reader: kind, id, version, m, t and p of a string; or 1 to 15 and zeros, version absent.
-pub fn read(s: &[u8]) -> Reading
-    ensures { result ≡ reading edition_two s.now }
+// The profile reader: kind, id, version, m, t and p of a string; or 1 to 15.
+pub fn read(s: &[u8]) -> Result<Record, Refusal>
+    ensures { read_answer result ≡ reading edition_two s.now }
 {
-    match parse(s) {
-        Ok(parsed) => Reading {
-            number: 0,
-            kind: parsed.kind,
-            fields: parsed.fields,
-        },
-        Err(refusal) => Reading::refused(refusal.number()),
-    }
+    let parsed = parse(s)?;
+    Ok(parsed.record)
 }
 
-// The algorithm version that a reader's answer means: the one written, or the one that the profile implies. Of a refusal it is 0, as its fields
-// are all-zero. Free answer: one made by hand goes by its fields.
-pub fn algorithm_version_of(r: Reading) -> AlgorithmVersion
-    ensures { result ≡ algorithm_version_of edition_two r }
+// The algorithm version that a reader's answer means: the one written, or the one that the profile implies; or the reader's refusal. Free answer:
+// one made by hand goes by its fields.
+pub fn algorithm_version_of(answer: Result<Record, Refusal>) -> Result<u32, Refusal>
+    ensures { version_answer result ≡ algorithm_version_of edition_two (read_answer answer) }
 {
-    let column = column_of(r.fields.id);
-    AlgorithmVersion {
-        number: r.number,
-        version: version_or(column.implied, r.fields.version),
-    }
+    let record = answer?;
+    let column = column_of(record.fields.id);
+    Ok(version_or(column.implied, record.fields.version))
 }
 
-// The algorithm version that a string means, or the reader's number and 0.
-pub fn algorithm_version(s: &[u8]) -> AlgorithmVersion
-    ensures { result ≡ algorithm_version edition_two s.now }
+// The algorithm version that a string means, or the reader's refusal.
+pub fn algorithm_version(s: &[u8]) -> Result<u32, Refusal>
+    ensures { version_answer result ≡ algorithm_version edition_two s.now }
 {
     algorithm_version_of(read(s))
 }
@@ -187,14 +160,14 @@ fn text_of(s: &[u8], parsed: ParsedString, choice: ByteString) -> &[u8]
 }
 
 // Decodes one of the four byte strings into `buf` from `at` on; the count is the decoded length, 0 when absent. 1 to 15, then 17.
-pub fn byte_string(s: &[u8], choice: ByteString, buf: &mut [u8], at: usize) -> Decoded
-    ensures { outcome result.number result.count.0 buf.new ≡ decoded edition_two choice s.now buf.old at }
+pub fn byte_string(
+    s: &[u8],
+    choice: ByteString,
+    buf: &mut [u8],
+    at: usize,
+) -> Result<Bytes, Refusal>
+    ensures { bytes_answered result buf.new ≡ decoded edition_two choice s.now buf.old at }
 {
-    match parse(s) {
-        Ok(parsed) => decode(text_of(s, parsed, choice), buf, at),
-        Err(refusal) => Decoded {
-            number: refusal.number(),
-            count: Bytes(0),
-        },
-    }
+    let parsed = parse(s)?;
+    decode(text_of(s, parsed, choice), buf, at)
 }

@@ -17,7 +17,7 @@ pub fn put_text(text: &[u8], out: &mut [u8]) -> Chars
     requires { length text.now ≤ length out.old }
     ensures { Wrote text.now out.old out.new result.0 }
 {
-    write_text(text, out, 0).count
+    write_text(text, out, 0).unwrap()
 }
 
 // A number after its tag.
@@ -26,7 +26,8 @@ pub fn put_decimal(tag: &[u8], n: u32, out: &mut [u8]) -> Chars
     ensures { Wrote (tag.now ++ digits n) out.old out.new result.0 }
 {
     let at = put_text(tag, out).0;
-    Chars(at + write_unsigned(u64::from(n), out, at).count.0)
+    let put = write_unsigned(u64::from(n), out, at).unwrap();
+    Chars(at + put.0)
 }
 
 // The length of a number after a tag of so many characters.
@@ -46,7 +47,8 @@ pub fn put_bytes(tag: &[u8], bytes: &[u8], out: &mut [u8]) -> Chars
         return Chars(0);
     }
     let at = put_text(tag, out).0;
-    Chars(at + encode(bytes, out, at).count.0)
+    let put = encode(bytes, out, at).unwrap();
+    Chars(at + put.0)
 }
 
 // The length of a byte string after a tag of so many characters.

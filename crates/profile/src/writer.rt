@@ -1,11 +1,10 @@
 // The writer: the one string of permitted fields, into a lent buffer from a place on; and the short writer, which takes its defaults.
 ghost use Rattle.std.specs.Prelude.{◌≡◌, []};
-ghost use Rattle.text.specs.Place.{outcome};
+ghost use Rattle.text.specs.Place.{chars_answered};
 ghost use Rattle.table.specs.Limits.{edition_two};
 ghost use Rattle.profile.specs.Fields.{field_set};
 ghost use Rattle.profile.specs.Writer.{short_fields};
 ghost use Rattle.profile.specs.Entries.{writing, short_writing};
-ghost use Rattle.profile.specs.WriterSteps.{fields_with, outcome_of};
 
 use crate::byte_strings::ByteStrings;
 use crate::fields::NumberFields;
@@ -13,27 +12,8 @@ use crate::writer_rows::permitted;
 use crate::writer_text::{put_string, string_len};
 use refusals::Refusal;
 use table::columns::column_of;
-use text::place::{Written, has_room};
+use text::place::has_room;
 use text::units::Chars;
-
-// Writes the string of the fields, where they are permitted and it fits; the count is its length.
-fn write_permitted(
-    n: NumberFields,
-    strings: ByteStrings,
-    buf: &mut [u8],
-    at: usize,
-) -> Result<Chars, Refusal>
-    ensures { outcome_of result buf.new ≡ writing edition_two (fields_with n strings.entry) buf.old at }
-{
-    let column = column_of(n.id);
-    permitted(column, n, strings)?;
-    let count = string_len(column, n, strings);
-    if !has_room(buf.len(), at, count.0) {
-        return Err(Refusal::NoRoom);
-    }
-    put_string(column, n, strings, &mut buf[at..]);
-    Ok(count)
-}
 
 // Writes the string of the fields into `buf` from `at` on; the count is its length. 8, 9, 11, 12, 14, 15, 16, then 17.
 pub fn write(
@@ -44,8 +24,8 @@ pub fn write(
     output: &[u8],
     buf: &mut [u8],
     at: usize,
-) -> Written
-    ensures { outcome result.number result.count.0 buf.new ≡ writing edition_two (field_set n keyid.now «data».now salt.now output.now) buf.old at }
+) -> Result<Chars, Refusal>
+    ensures { chars_answered result buf.new ≡ writing edition_two (field_set n keyid.now «data».now salt.now output.now) buf.old at }
 {
     let strings = ByteStrings {
         keyid,
@@ -53,13 +33,14 @@ pub fn write(
         salt,
         output,
     };
-    match write_permitted(n, strings, buf, at) {
-        Ok(count) => Written { number: 0, count },
-        Err(refusal) => Written {
-            number: refusal.number(),
-            count: Chars(0),
-        },
+    let column = column_of(n.id);
+    permitted(column, n, strings)?;
+    let count = string_len(column, n, strings);
+    if !has_room(buf.len(), at, count.0) {
+        return Err(Refusal::NoRoom);
     }
+    put_string(column, n, strings, &mut buf[at..]);
+    Ok(count)
 }
 
 // The number fields that the short writer uses.
@@ -77,8 +58,8 @@ fn short_fields(id: u8) -> NumberFields
 }
 
 // Writes the string of an id, a salt and an output, with the short writer's defaults and no keyid or data. 8, 14, 15, 16, then 17.
-pub fn write_short(id: u8, salt: &[u8], output: &[u8], buf: &mut [u8], at: usize) -> Written
-    ensures { outcome result.number result.count.0 buf.new ≡ short_writing edition_two id salt.now output.now buf.old at }
+pub fn write_short(id: u8, salt: &[u8], output: &[u8], buf: &mut [u8], at: usize) -> Result<Chars, Refusal>
+    ensures { chars_answered result buf.new ≡ short_writing edition_two id salt.now output.now buf.old at }
 {
     write(short_fields(id), b"", b"", salt, output, buf, at)
 }
