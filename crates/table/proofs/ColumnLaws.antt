@@ -46,24 +46,24 @@ no_column k (inr h) = sym (column-past k h) ∙ column_rule k
 
 module _ (k : ℕ) (c : Column) where
   -- a column of the code, and the index of its name, are those of the number
-  abbrev Is_column_of : Type 0
-  Is_column_of = (profile_in c ≡ profile_of edition_two k) × (c.name ≡ name_index k)
+  abbrev IsColumnOf : Type 0
+  IsColumnOf = (profile_in c ≡ profile_of edition_two k) × (c.name ≡ name_index k)
 
   -- the index of the name, by the column
   index_by : (r : Profile) → r ≡ profile_of edition_two k → cond r.known k 0 ≡ name_index k
   index_by r e = ap (λ (r : Profile). cond r.known k 0) e
 
-  pub column_argon2 : 1 ≤ k → k < 4 → profile_in c ≡ argon2 (name_at k) → c.name ≡ k → Is_column_of
+  pub column_argon2 : 1 ≤ k → k < 4 → profile_in c ≡ argon2 (name_at k) → c.name ≡ k → IsColumnOf
   column_argon2 l h p n =
       let q : argon2 (name_at k) ≡ profile_of edition_two k = sym (rw (le-ltb k 1 l, lt-ltb k 4 h)) ∙ column_rule k in
       (p ∙ q, n ∙ index_by (argon2 (name_at k)) q)
 
-  pub column_pbkdf2 : 4 ≤ k → k < 6 → profile_in c ≡ pbkdf2 (name_at k) → c.name ≡ k → Is_column_of
+  pub column_pbkdf2 : 4 ≤ k → k < 6 → profile_in c ≡ pbkdf2 (name_at k) → c.name ≡ k → IsColumnOf
   column_pbkdf2 l h p n =
       let q : pbkdf2 (name_at k) ≡ profile_of edition_two k = sym (rw (le-ltb k 1 (omega arith), le-ltb k 4 l, lt-ltb k 6 h)) ∙ column_rule k in
       (p ∙ q, n ∙ index_by (pbkdf2 (name_at k)) q)
 
-  pub column_other : k < 1 ⊎ 6 ≤ k → (profile_in c ≡ no_profile) × (c.name ≡ 0) → Is_column_of
+  pub column_other : k < 1 ⊎ 6 ≤ k → (profile_in c ≡ no_profile) × (c.name ≡ 0) → IsColumnOf
   column_other h p =
       let q : no_profile ≡ profile_of edition_two k = no_column k h in
       (p.0 ∙ q, p.1 ∙ index_by no_profile q)
