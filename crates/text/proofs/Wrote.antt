@@ -8,7 +8,11 @@ use lib.ListN.{length, take, drop, length-append, length-drop}
 use mir.Syntax.{w64}
 use mir.Val.{Fits}
 use borrow.Rule.Slice.PartMut.{put_mid}
-use Rattle.text.specs.Place.{outcome, over, put, Wrote}
+use Rattle.std.proofs.Common.{Result}
+use Rattle.std.specs.Result.{IsOk}
+use Rattle.refusals.specs.declared.Refusal.{Refusal}
+use Rattle.text.specs.Place.{outcome, answered, over, put, Wrote}
+use Rattle.text.proofs.Writers.{has_count}
 use Rattle.text.proofs.Writing.{put-fits, tail_part, over_back}
 use Rattle.text.proofs.Over.{over-nil, over-over, over_then, length_over}
 
@@ -121,6 +125,15 @@ module _ {d t u : List ℕ} {us : List (List ℕ)} {d₁ : List ℕ} {n : ℕ} (
   pub next_put : {d₂ : List ℕ} {number count : ℕ} → outcome number count d₂ ≡ put d₁ n u → More d₂ count
   next_put {d₂} {number} {count} e =
       record { fits = next_fits; wrote = wrote_more d d₁ d₂ t u n number count (first_room next_fits) a.wrote e }
+
+  -- and where there is room for it, the writer's answer is a count
+  pub next_counted : {A : Type 0} (size : A → ℕ) (w : Result A Refusal) (d₂ : List ℕ) → answered size w d₂ ≡ put d₁ n u → IsOk w
+  next_counted size w d₂ e =
+      let l = length-append t u in
+      let h = first_room next_fits in
+      let k = chain_length a in
+      let c = a.wrote.count_is in
+      has_count size w d₁ d₂ u n (omega arith) e
 
 -- ---- two texts, copied one after the other and read back
 
