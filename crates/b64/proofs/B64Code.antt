@@ -82,7 +82,8 @@ sextet_at t e i h = ltb-true _ _ (all_at in_alphabet t (canonical_alphabet t e) 
 -- ---- the encoder, group by group
 
 pub record EncodeGroup (b : List ℕ) : Type 0 where
-  pub chars : take 4 (encode b) ≡ char0 (get_or b 0 0) ∷ char1 (get_or b 0 0) (get_or b 1 0) ∷ char2 (get_or b 1 0) (get_or b 2 0) ∷ char3 (get_or b 2 0) ∷ []
+  pub size : length (take 4 (encode b)) ≡ 4
+  pub taken : encode (take 3 b) ≡ take 4 (encode b)
   pub rest : encode b ≡ take 4 (encode b) ++ encode (drop 3 b)
 
 pub encode_group : (b : List ℕ) → 3 ≤ length b → EncodeGroup b
@@ -90,7 +91,7 @@ unfolding encode
 encode_group [] h = absurd (omega arith)
 encode_group (x ∷ []) h = absurd (omega arith)
 encode_group (x ∷ y ∷ []) h = absurd (omega arith)
-encode_group (x ∷ y ∷ z ∷ b) h = record { chars = refl; rest = refl }
+encode_group (x ∷ y ∷ z ∷ b) h = record { size = refl; taken = refl; rest = refl }
 
 pub encode-none : (b : List ℕ) → length b ≡ 0 → encode b ≡ []
 unfolding encode
@@ -110,6 +111,15 @@ encode-two (x ∷ []) h = absurd (omega arith)
 encode-two (x ∷ y ∷ []) h = refl
 encode-two (x ∷ y ∷ z ∷ b) h = absurd (omega arith)
 
+encode-three : (b : List ℕ) → length b ≡ 3
+    → encode b ≡ char0 (get_or b 0 0) ∷ char1 (get_or b 0 0) (get_or b 1 0) ∷ char2 (get_or b 1 0) (get_or b 2 0) ∷ char3 (get_or b 2 0) ∷ []
+unfolding encode
+encode-three [] h = absurd (omega arith)
+encode-three (x ∷ []) h = absurd (omega arith)
+encode-three (x ∷ y ∷ []) h = absurd (omega arith)
+encode-three (x ∷ y ∷ z ∷ []) h = refl
+encode-three (x ∷ y ∷ z ∷ w ∷ b) h = absurd (omega arith)
+
 -- what the stores leave, where p, q, r, s are the letters that the code has looked up
 module _ (b d : List ℕ) (p q r s : ℕ) (ep : p ≡ char0 (get_or b 0 0)) where
   pub one_stored : q ≡ letter (get_or b 0 0 % 4 * 16) → length b ≡ 1 → length (encode b) ≤ length d
@@ -128,9 +138,9 @@ module _ (b d : List ℕ) (p q r s : ℕ) (ep : p ≡ char0 (get_or b 0 0)) wher
       let k : 3 ≤ length d = omega (arith, ap length w) in
       rw (ep, eq, er, z, sets-eq (_ ∷ _ ∷ _ ∷ []) d 0 k, w)
 
-  pub group_stored : q ≡ char1 (get_or b 0 0) (get_or b 1 0) → r ≡ char2 (get_or b 1 0) (get_or b 2 0) → s ≡ char3 (get_or b 2 0) → EncodeGroup b → 4 ≤ length d
-      → set (set (set (set d 0 p) 1 q) 2 r) 3 s ≡ take 4 (encode b) ++ drop 4 d
-  group_stored eq er es g h = rw (ep, eq, er, es, sets-eq (_ ∷ _ ∷ _ ∷ _ ∷ []) d 0 h, g.chars)
+  pub group_stored : q ≡ char1 (get_or b 0 0) (get_or b 1 0) → r ≡ char2 (get_or b 1 0) (get_or b 2 0) → s ≡ char3 (get_or b 2 0) → length b ≡ 3 → 4 ≤ length d
+      → set (set (set (set d 0 p) 1 q) 2 r) 3 s ≡ encode b ++ drop 4 d
+  group_stored eq er es n h = rw (ep, eq, er, es, sets-eq (_ ∷ _ ∷ _ ∷ _ ∷ []) d 0 h, encode-three b n)
 
 -- ---- four sextets as one number
 

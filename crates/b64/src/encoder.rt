@@ -1,5 +1,5 @@
 // From bytes to B64 characters, into a lent buffer.
-ghost use Rattle.std.specs.Prelude.{◌≡◌, ◌++◌, ◌+◌, ◌≤◌, ◌<◌, length, take, drop};
+ghost use Rattle.std.specs.Prelude.{◌≡◌, ◌++◌, ◌+◌, ◌≤◌, ◌<◌, length, drop};
 ghost use Rattle.text.specs.Place.{outcome};
 ghost use Rattle.b64.specs.B64.{Letters, encode, encoding};
 
@@ -9,15 +9,13 @@ use text::numbers::NO_ROOM;
 use text::place::{Written, has_room};
 use text::units::{Bytes, Chars};
 
-// The first three bytes, as four characters.
-fn encode_group(table: &[u8; 64], bytes: &[u8], out: &mut [u8])
-    requires in_bounds { (3 ≤ length bytes.now) × (4 ≤ length out.old) }
+// The four characters of three bytes, at the start of a buffer.
+fn encode_group(table: &[u8; 64], group: &[u8; 3], out: &mut [u8])
+    requires in_bounds { 4 ≤ length out.old }
     requires letters { Letters table.now }
-    ensures { out.new ≡ take 4 (encode bytes.now) ++ drop 4 out.old }
+    ensures { out.new ≡ encode group.now ++ drop 4 out.old }
 {
-    let x = bytes[0];
-    let y = bytes[1];
-    let z = bytes[2];
+    let [x, y, z] = *group;
     out[0] = letter_of(table, x / 4);
     out[1] = letter_of(table, x % 4 * 16 + y / 16);
     out[2] = letter_of(table, y % 16 * 4 + z / 64);
@@ -45,20 +43,17 @@ fn encode_rest(table: &[u8; 64], bytes: &[u8], out: &mut [u8])
     }
 }
 
-// All of the bytes, from the start of a buffer that has room for their characters. By as_chunks, phc_write takes 2 % more instructions.
+// All of the bytes, from the start of a buffer that has room for their characters.
 fn encode_all(table: &[u8; 64], bytes: &[u8], out: &mut [u8])
     requires bytes_in_bounds { length (encode bytes.now) ≤ length out.old }
     requires letters { Letters table.now }
     ensures { out.new ≡ encode bytes.now ++ drop (length (encode bytes.now)) out.old }
 {
-    let mut i = 0;
-    let mut o = 0;
-    while 3 <= bytes.len() - i {
-        encode_group(table, &bytes[i..], &mut out[o..]);
-        i += 3;
-        o += 4;
+    let (groups, rest) = bytes.as_chunks::<3>();
+    for (k, group) in groups.iter().enumerate() {
+        encode_group(table, group, &mut out[k * 4..]);
     }
-    encode_rest(table, &bytes[i..], &mut out[o..]);
+    encode_rest(table, rest, &mut out[groups.len() * 4..]);
 }
 
 // The text of bytes into `buf` from `at` on. 17: it doesn't fit.
