@@ -199,7 +199,11 @@ module _ (s out : List ℕ) (i o : ℕ) where
       let g = group_bits (sextet (get_or s i 0)) (sextet (get_or s (i + 1) 0)) (sextet (get_or s (i + 2) 0)) (sextet (get_or s (i + 3) 0)) (omega arith) in
       absurd (omega arith)
 
--- at the bound for text and room no group stands there that fits
+-- up to the bound for text and room a group stands there and fits; at the bound none does
+pub bound_inside : (s : List ℕ) (at : ℕ) (out₀ : List ℕ) (from : ℕ) (out : List ℕ) (i o : ℕ) → Reached s at out₀ from out i o → at ≤ length s → from ≤ length out₀
+    → i < at + min ((length s - at) / 4) ((length out₀ - from) / 3) * 4 → (i + 4 ≤ length s) × (o + 3 ≤ length out)
+bound_inside s at out₀ from out i o r h k l = (omega (arith, r.next_is), omega (arith, r.next_is, r.end_is, r.keeps))
+
 pub stopped_bound : (s : List ℕ) (at : ℕ) (out₀ : List ℕ) (from : ℕ) (out : List ℕ) (i o : ℕ) → Reached s at out₀ from out i o → at ≤ length s → from ≤ length out₀
     → at + min ((length s - at) / 4) ((length out₀ - from) / 3) * 4 ≤ i → Stopped s out i o
 stopped_bound s at out₀ from out i o r h k l = λ (m : 4 ≤ length (run_at s i)).

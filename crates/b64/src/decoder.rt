@@ -33,22 +33,32 @@ fn sextet_at(table: &[u8; 256], s: &[u8], i: usize) -> u8
     }
 }
 
-// Whole groups: four characters to three bytes, as many as stand at the place and fit, and how many they are.
-fn decode_groups(table: &[u8; 256], s: &[u8], at: usize, out: &mut [u8], from: usize) -> usize
+// Whole groups: four characters to three bytes, as many as stand at the place and fit. One bound for text and room.
+// By as_chunks and enumerate, phc_read_all takes 1 to 2 % more instructions.
+fn decode_groups(
+    table: &[u8; 256],
+    s: &[u8],
+    at: usize,
+    out: &mut [u8],
+    from: usize,
+) -> (usize, usize)
     requires at_in_bounds { (at ≤ length s.now) × (from ≤ length out.old) }
     requires sextets { Sextets table.now }
-    ensures { Reached s.now at out.old from out.new (at + result * 4) (from + result * 3) × Stopped s.now out.new (at + result * 4) (from + result * 3) }
+    ensures { Reached s.now at out.old from out.new result.0 result.1 × Stopped s.now out.new result.0 result.1 }
 {
-    let (groups, _) = s[at..].as_chunks::<4>();
-    let count = groups.len().min((out.len() - from) / 3);
-    for (k, group) in groups[..count].iter().enumerate() {
-        let n = four(table, group);
+    let last = at + ((s.len() - at) / 4).min((out.len() - from) / 3) * 4;
+    let mut i = at;
+    let mut o = from;
+    while i < last {
+        let n = four(table, s, i);
         if 16777215 < n {
-            return k;
+            return (i, o);
         }
-        put_three(out, from + k * 3, n);
+        put_three(out, o, n);
+        i += 4;
+        o += 3;
     }
-    count
+    (i, o)
 }
 
 // What stands after the whole groups: the last two or three characters of a canonical text, where they fit; anything else is left.
@@ -114,8 +124,8 @@ pub fn decode_run(s: &[u8], at: usize, out: &mut [u8], from: usize) -> Run
         };
     }
     let table = &SEXTETS;
-    let k = decode_groups(table, s, at, out, from);
-    decode_rest(table, s, at + k * 4, out, from + k * 3)
+    let g = decode_groups(table, s, at, out, from);
+    decode_rest(table, s, g.0, out, g.1)
 }
 
 // The groups of a canonical text, from the start of a buffer that has room for its bytes; two a turn, since one a turn takes 7 % more instructions.

@@ -21,12 +21,16 @@ fn sextets_of(table: &[u8; 256], chars: &[u8; 4]) -> [u8; 4]
     ]
 }
 
-// The 24 bits of four characters; 2^24 where one is not of the alphabet.
-pub fn four(table: &[u8; 256], chars: &[u8; 4]) -> u32
-    requires { Sextets table.now }
-    ensures { result ≡ group_at chars.now 0 }
+// The 24 bits of the four characters at a place; 2^24 where one is not of the alphabet.
+pub fn four(table: &[u8; 256], s: &[u8], i: usize) -> u32
+    requires i_in_bounds { i + 4 ≤ length s.now }
+    requires sextets { Sextets table.now }
+    ensures { result ≡ group_at s.now i }
 {
-    let [a, b, c, d] = sextets_of(table, chars);
+    let a = sextet_of(table, s[i]);
+    let b = sextet_of(table, s[i + 1]);
+    let c = sextet_of(table, s[i + 2]);
+    let d = sextet_of(table, s[i + 3]);
     group(a, b, c, d)
 }
 

@@ -1,7 +1,11 @@
 -- `b64::decoder::decode_groups` meets its contract. Assumes nothing.
-use Prim.Native.Nat.{◌+◌, ◌*◌}
+use Prim.Native.Nat.{◌-◌}
+use lib.ListN.{length}
 use Rattle.b64.specs.RunSteps.{Reached}
 use Rattle.b64.proofs.decoder.decode_groups.Given as goal
 
-abbrev pub invariant-loop-k : goal.invariant-loop-k
-invariant-loop-k l = Reached l.s l.at l.initial.out l.from l.out (l.at + l.k * 4) (l.from + l.k * 3)
+abbrev pub invariant-loop-i : goal.invariant-loop-i
+invariant-loop-i l = Reached l.s l.at l.initial.out l.from l.out l.i l.o
+
+abbrev pub decreases-loop-i : goal.decreases-loop-i
+decreases-loop-i l = length l.s - l.i

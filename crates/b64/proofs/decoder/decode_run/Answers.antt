@@ -13,8 +13,8 @@ returns-then-s-at c =
     let g = c.args in
     gives_past g.s.now g.at g.out.now g.from c.if-out-from.false c.if-s-at.true
 
-pub decode_groups-k-requires-clause-sextets : goal.decode_groups-k-requires-clause-sextets
-decode_groups-k-requires-clause-sextets c =
+pub decode_groups-g-requires-clause-sextets : goal.decode_groups-g-requires-clause-sextets
+decode_groups-g-requires-clause-sextets c =
     sextets_rule
 
 pub decode_rest-requires-clause-sextets : goal.decode_rest-requires-clause-sextets
@@ -24,4 +24,4 @@ decode_rest-requires-clause-sextets c =
 pub returns : goal.returns
 returns c =
     let g = c.args in
-    reached_run g.s.now g.at g.out.now g.from _ _ _ c.decode_groups-k.ensures.0 c.decode_groups-k.ensures.1 _ _ c.decode_rest.ensures
+    reached_run g.s.now g.at g.out.now g.from _ _ _ c.decode_groups-g.ensures.0 c.decode_groups-g.ensures.1 _ _ c.decode_rest.ensures
