@@ -27,6 +27,7 @@ pub fn decode_hex(text: &[u8], buf: &mut [u8]) -> Bytes
     ensures { Wrote (take (length buf.old) (hex_bytes text.now)) buf.old buf.new result.0 }
 {
     let count = (text.len() / 2).min(buf.len());
+    // By index: of what a `zip` of `iter_mut` writes nothing is known after the loop.
     for (i, byte) in buf[..count].iter_mut().enumerate() {
         *byte = nibble(text[2 * i]) * 16 + nibble(text[2 * i + 1]);
     }

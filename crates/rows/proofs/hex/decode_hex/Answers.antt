@@ -14,8 +14,8 @@ loop-i-preserved c =
     let l = c.loop-i in
     let w : c.min-count.result ≡ min (length t / 2) (length c.args.buf.now) = c.min-count.ensures in
     let n = length-take-le c.min-count.result c.args.buf.now (omega arith) in
-    let v : c.nibble.result * 16 + c.nibble-in-loop-i.result ≡ get_or (hex_bytes t) l.i 0 =
-    rw (c.nibble.ensures.0, c.nibble-in-loop-i.ensures.0) (sym (hex_at t l.i (omega (arith, n)))) in
+    let h = hex_at t l.i (omega (arith, n)) in
+    let v : c.nibble.result * 16 + c.nibble-in-loop-i.result ≡ get_or (hex_bytes t) l.i 0 = rw (c.nibble.ensures.0, c.nibble-in-loop-i.ensures.0) (sym h) in
     (omega arith, rw v (take_more_hex t l.byte-items l.i (omega (arith, n)) (omega (arith, n)) l.invariant.1))
 
 pub returns : goal.returns
