@@ -2,10 +2,8 @@
 ghost use Rattle.std.specs.Prelude.{◌≤◌, ◌≡◌, length};
 ghost use Rattle.phc.specs.Batches.{batch_length, recorded_batch, judge_outcome, recorded_judging};
 
-use crate::record::four_words;
 use accounts::batch::{Batch, judge_batch};
-use text::numbers::NO_ROOM;
-use text::place::write_text;
+use refusals::Refusal;
 
 // The bytes of a result.
 const BATCH_LEN: usize = 16;
@@ -15,15 +13,11 @@ fn give_batch(b: Batch, res: &mut [u8]) -> u64
     requires { batch_length ≤ length res.old }
     ensures { (result ≡ (recorded_batch b res.old).number) × (res.new ≡ (recorded_batch b res.old).buffer) }
 {
-    let number = b.number;
-    if number != 0 {
-        return number as u64;
+    if b.number != 0 {
+        return u64::from(b.number);
     }
-    write_text(
-        &four_words(b.place, b.place / 4294967296, b.count, b.count / 4294967296),
-        res,
-        0,
-    );
+    res[..8].copy_from_slice(&b.place.to_le_bytes());
+    res[8..BATCH_LEN].copy_from_slice(&b.count.to_le_bytes());
     0
 }
 
@@ -40,7 +34,7 @@ pub extern "C" fn phc_judge(
     ensures { judge_outcome result answers.new res.new ≡ recorded_judging text.now from limit answers.old res.old }
 {
     if res.len() < BATCH_LEN {
-        return NO_ROOM as u64;
+        return u64::from(Refusal::NoRoom.number());
     }
     give_batch(judge_batch(text, from, limit, answers), res)
 }

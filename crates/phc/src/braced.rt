@@ -17,8 +17,7 @@ pub extern "C" fn phc_directory_read_all(t: &[u8], record: &mut [u8], buf: &mut 
     ensures { all_outcome result «record».new buf.new ≡ directory_recorded_all t.now «record».old buf.old }
 {
     if record.len() < RECORD_ALL_LEN {
-        let r = read(t);
-        return number_or_full(r.number);
+        return number_or_full(read(t).number);
     }
     give_all(read_all(t, buf, 0), record)
 }
@@ -43,6 +42,5 @@ pub extern "C" fn phc_directory_write(
 {
     let fields = handed_fields(id, has_version, version, m, t, p);
     let w = write(fields, keyid, data, salt, output, buf, 0);
-    let count = w.count;
-    code_of(w.number, count.0 as u64)
+    code_of(w.number, w.count.0 as u64)
 }

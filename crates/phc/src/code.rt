@@ -9,7 +9,7 @@ pub fn code_of(number: u8, found: u64) -> u64
     ensures { result ≡ code_of number found }
 {
     if number != 0 {
-        return number as u64;
+        return u64::from(number);
     }
     found * 100
 }

@@ -12,8 +12,7 @@ pub extern "C" fn phc_read_all(s: &[u8], record: &mut [u8], buf: &mut [u8]) -> u
     ensures { all_outcome result «record».new buf.new ≡ recorded_all s.now «record».old buf.old }
 {
     if record.len() < RECORD_ALL_LEN {
-        let r = read(s);
-        return number_or_full(r.number);
+        return number_or_full(read(s).number);
     }
     give_all(read_all(s, buf, 0), record)
 }

@@ -10,7 +10,7 @@ use crate::record::{RECORD_LEN, put_record};
 use fast_path::reader::read;
 use profile::fields::ByteString;
 use profile::reader::{algorithm_version_of, byte_string};
-use text::numbers::NO_ROOM;
+use refusals::Refusal;
 
 // 0 and the record in the first 20 bytes, or the reader's number; then 17.
 #[unsafe(no_mangle)]
@@ -18,12 +18,11 @@ pub extern "C" fn phc_read(s: &[u8], record: &mut [u8]) -> u64
     ensures { (result ≡ (recorded s.now «record».old).number) × («record».new ≡ (recorded s.now «record».old).buffer) }
 {
     let r = read(s);
-    let number = r.number;
-    if number != 0 {
-        return number as u64;
+    if r.number != 0 {
+        return u64::from(r.number);
     }
     if record.len() < RECORD_LEN {
-        return NO_ROOM as u64;
+        return u64::from(Refusal::NoRoom.number());
     }
     put_record(r, record);
     0
@@ -35,7 +34,7 @@ pub extern "C" fn phc_algorithm_version(s: &[u8]) -> u64
     ensures { result ≡ code_of (algorithm_version edition_two s.now).number (algorithm_version edition_two s.now).version }
 {
     let v = algorithm_version_of(read(s));
-    code_of(v.number, v.version as u64)
+    code_of(v.number, u64::from(v.version))
 }
 
 // One byte string into the buffer from its start: a hundred times the count, or the refusal's number.
@@ -43,8 +42,7 @@ fn decode_one(s: &[u8], choice: ByteString, buf: &mut [u8]) -> u64
     ensures { (result ≡ coded (decoded edition_two choice s.now buf.old 0)) × (buf.new ≡ (decoded edition_two choice s.now buf.old 0).buffer) }
 {
     let r = byte_string(s, choice, buf, 0);
-    let count = r.count;
-    code_of(r.number, count.0 as u64)
+    code_of(r.number, r.count.0 as u64)
 }
 
 // keyid, decoded: a hundred times its count, or 1 to 15, then 17.

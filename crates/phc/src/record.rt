@@ -1,26 +1,18 @@
 // A record as bytes: kind, id, 1 where a version is written, 0, then version, m, t and p as 32-bit little-endian numbers; and the counts of the
 // four byte strings after it.
-ghost use Rattle.std.specs.Prelude.{◌%◌, ◌≤◌, ◌≡◌, cond, ◌++◌, eqb, length};
+ghost use Rattle.std.specs.Prelude.{◌≤◌, ◌≡◌, cond, ◌++◌, eqb, length};
 ghost use Rattle.text.specs.Place.{over};
 ghost use Rattle.phc.specs.Records.{version_flag, version_number, words, head_bytes, record_bytes, count_bytes, record_length, record_all_length, recorded_contents};
 
 use fast_path::contents::Contents;
 use profile::fields::Reading;
+use refusals::Refusal;
 use table::version::Version;
-use text::numbers::NO_ROOM;
-use text::place::write_text;
 
 // The bytes of a record, and of one with the counts after it.
 pub const RECORD_LEN: usize = 20;
 
 pub const RECORD_ALL_LEN: usize = 36;
-
-// The lowest eight bits.
-fn low(n: usize) -> u8
-    ensures { result ≡ n % 256 }
-{
-    (n % 256) as u8
-}
 
 fn version_flag(version: Version) -> u8
     ensures { result ≡ version_flag version }
@@ -41,44 +33,30 @@ fn version_number(version: Version) -> u32
 }
 
 // Four numbers of 32 bits, little-endian; of a larger one its lowest 32 bits.
-pub fn four_words(a: usize, b: usize, c: usize, d: usize) -> [u8; 16]
+fn four_words(a: usize, b: usize, c: usize, d: usize) -> [u8; 16]
     ensures { result ≡ words a b c d }
 {
+    let [a0, a1, a2, a3, ..] = a.to_le_bytes();
+    let [b0, b1, b2, b3, ..] = b.to_le_bytes();
+    let [c0, c1, c2, c3, ..] = c.to_le_bytes();
+    let [d0, d1, d2, d3, ..] = d.to_le_bytes();
     [
-        low(a),
-        low(a / 256),
-        low(a / 65536),
-        low(a / 16777216),
-        low(b),
-        low(b / 256),
-        low(b / 65536),
-        low(b / 16777216),
-        low(c),
-        low(c / 256),
-        low(c / 65536),
-        low(c / 16777216),
-        low(d),
-        low(d / 256),
-        low(d / 65536),
-        low(d / 16777216),
+        a0, a1, a2, a3, b0, b1, b2, b3, c0, c1, c2, c3, d0, d1, d2, d3,
     ]
 }
 
 fn head_bytes(r: Reading) -> [u8; 4]
     ensures { result ≡ head_bytes r }
 {
-    let fields = r.fields;
-    let version = fields.version;
-    [r.kind, fields.id, version_flag(version), 0]
+    [r.kind, r.fields.id, version_flag(r.fields.version), 0]
 }
 
 fn number_bytes(r: Reading) -> [u8; 16]
     ensures { result ≡ words (version_number r.fields.version) r.fields.m r.fields.t r.fields.p }
 {
     let fields = r.fields;
-    let version = fields.version;
     four_words(
-        version_number(version) as usize,
+        version_number(fields.version) as usize,
         fields.m as usize,
         fields.t as usize,
         fields.p as usize,
@@ -90,8 +68,8 @@ pub fn put_record(r: Reading, out: &mut [u8])
     requires { record_length ≤ length out.old }
     ensures { out.new ≡ over out.old 0 (record_bytes r) }
 {
-    write_text(&head_bytes(r), out, 0);
-    write_text(&number_bytes(r), out, 4);
+    out[..4].copy_from_slice(&head_bytes(r));
+    out[4..RECORD_LEN].copy_from_slice(&number_bytes(r));
 }
 
 // The record and the counts after it.
@@ -99,23 +77,20 @@ fn put_record_all(c: Contents, out: &mut [u8])
     requires { record_all_length ≤ length out.old }
     ensures { out.new ≡ over out.old 0 (record_bytes c.reading ++ count_bytes c) }
 {
-    let r = c.reading;
-    put_record(r, out);
-    write_text(
-        &four_words(c.keyid.0, c.data.0, c.salt.0, c.output.0),
-        out,
-        RECORD_LEN,
-    );
+    put_record(c.reading, out);
+    let counts = four_words(c.keyid.0, c.data.0, c.salt.0, c.output.0);
+    out[RECORD_LEN..RECORD_ALL_LEN].copy_from_slice(&counts);
 }
 
 // The refusal's number; 17 where there is none.
 pub fn number_or_full(number: u8) -> u64
     ensures { result ≡ cond (eqb number 0) 17 number }
 {
-    if number == 0 {
-        return NO_ROOM as u64;
-    }
-    number as u64
+    u64::from(if number == 0 {
+        Refusal::NoRoom.number()
+    } else {
+        number
+    })
 }
 
 // What was read, into a record that has room for it: 0, or the refusal's number.
@@ -123,10 +98,8 @@ pub fn give_all(c: Contents, record: &mut [u8]) -> u64
     requires { record_all_length ≤ length «record».old }
     ensures { (result ≡ (recorded_contents c «record».old).number) × («record».new ≡ (recorded_contents c «record».old).buffer) }
 {
-    let r = c.reading;
-    let number = r.number;
-    if number != 0 {
-        return number as u64;
+    if c.reading.number != 0 {
+        return u64::from(c.reading.number);
     }
     put_record_all(c, record);
     0

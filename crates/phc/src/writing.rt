@@ -29,8 +29,7 @@ pub extern "C" fn phc_write(
 {
     let fields = handed_fields(id, has_version, version, m, t, p);
     let w = write(fields, keyid, data, salt, output, buf, 0);
-    let count = w.count;
-    code_of(w.number, count.0 as u64)
+    code_of(w.number, w.count.0 as u64)
 }
 
 // The same for an id, a salt and an output, with the short writer's defaults and no keyid or data.
@@ -39,6 +38,5 @@ pub extern "C" fn phc_write_short(id: u8, salt: &[u8], output: &[u8], buf: &mut 
     ensures { (result ≡ coded (short_writing edition_two id salt.now output.now buf.old 0)) × (buf.new ≡ (short_writing edition_two id salt.now output.now buf.old 0).buffer) }
 {
     let w = write_short(id, salt, output, buf, 0);
-    let count = w.count;
-    code_of(w.number, count.0 as u64)
+    code_of(w.number, w.count.0 as u64)
 }

@@ -10,7 +10,7 @@ pub returns-then-record-lt-RECORD_ALL_LEN : goal.returns-then-record-lt-RECORD_A
 returns-then-record-lt-RECORD_ALL_LEN c =
     let a = c.args in
     directory_all_short a.t.now a.«record».now a.buf.now c.if-record-lt-RECORD_ALL_LEN.true _
-    (c.number_or_full.ensures ∙ ap (λ (x : Reading). cond (eqb x.number 0) 17 x.number) c.read-r.ensures)
+    (c.number_or_full.ensures ∙ ap (λ (x : Reading). cond (eqb x.number 0) 17 x.number) c.read.ensures)
 
 pub returns : goal.returns
 returns c =

@@ -10,4 +10,4 @@ pub returns : goal.returns
 unfolding algorithm_version
 returns c = let q : c.algorithm_version_of-v.result ≡ algorithm_version edition_two c.args.s.now =
     c.algorithm_version_of-v.ensures ∙ ap (algorithm_version_of edition_two) c.read.ensures in
-    c.code_of.ensures ∙ ap (λ (a : AlgorithmVersion). code_of a.number a.version) q
+    c.code_of.ensures ∙ ap (code_of c.algorithm_version_of-v.result.number) c.from.ensures ∙ ap (λ (a : AlgorithmVersion). code_of a.number a.version) q

@@ -1,11 +1,12 @@
 -- `phc::record::put_record` meets its contract. Assumes nothing.
-use mathlib.Core.Path.{refl}
-use native.Mathlib.Omega.{arith}
-use Rattle.text.proofs.Over.{put-text, put_after_lem}
-use Rattle.phc.specs.Records.{head_bytes}
+use Rattle.std.proofs.Common.{refl, ◌∙◌}
+use Rattle.phc.specs.Records.{version_number, words, head_bytes}
+use Rattle.phc.proofs.RecordLaws.{copied_at, copied_after}
 use Rattle.phc.proofs.record.put_record.Goals as goal
 
 pub returns : goal.returns
-returns c = put_after_lem c.args.out.now _ _ (head_bytes c.args.r) _ _ _ _ _
-    (put-text c.args.out.now _ (head_bytes c.args.r) _ _ _ _ c.head_bytes.ensures (omega (arith, c.requires)) c.write_text.ensures) refl c.number_bytes.ensures
-    (omega (arith, c.requires)) c.write_text-2.ensures
+returns c =
+    let r = c.args.r in
+    let out = c.args.out.now in
+    copied_after out _ (head_bytes r) (words (version_number r.fields.version) r.fields.m r.fields.t r.fields.p) _ _ _
+    (copied_at out _ (head_bytes r) 0 _ (c.copy_from_slice.ensures.after ∙ c.head_bytes.ensures) refl) refl (c.copy_from_slice-2.ensures.after ∙ c.number_bytes.ensures) refl
