@@ -52,7 +52,7 @@ limited_back : (low high : ℕ) (t : List ℕ) → eqb (limited_number (limited_
 limited_back low high t e = limited_is low high t (limited_reading low high t) refl e
 
 -- the text of a number within the limits is read as that number
-limited_forth : (low high n : ℕ) → within low high n ≡ true → limited_reading low high (digits n) ≡ Value n
+limited_forth : (low high n : ℕ) → within low high n ≡ true → limited_reading low high (digits n) ≡ Ok n
 limited_forth low high n e = let w = from_within low high n e in limited_digits low high n w.0 w.1
 
 digit_value : (c : ℕ) → 48 ≤ c → c ≤ 57 → is_value_byte c ≡ true

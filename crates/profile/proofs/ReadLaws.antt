@@ -36,7 +36,7 @@ use Rattle.table.specs.declared.limits.BytesRule.{BytesRule}
 use Rattle.table.specs.declared.version.Version.{Version}
 use Rattle.profile.specs.Fields.{chosen, is_decoded_size, is_bytes, read_bytes, read_version}
 use Rattle.profile.specs.Reader.{parameter_names, named_values, unmatched_items, value_at, rows_for, profile_rows, reader_number, fields_of}
-use Rattle.profile.specs.Entries.{refused_reading, kind_number, kind_of, read_answer, reading, decoded}
+use Rattle.profile.specs.Entries.{refused_reading, kind_number, kind_of, reading, decoded}
 use Rattle.profile.specs.ReaderSteps.{span_text, span_texts, ValuesAre, Answers, costs_read, chosen_text, ParsedIs}
 use Rattle.profile.specs.declared.fields.NumberFields.{NumberFields}
 use Rattle.profile.specs.declared.fields.Kind.{Kind}
@@ -200,7 +200,7 @@ module _ (s : List ℕ) (z : grammar_number s ≡ 0) (places : Places) (e : plac
 
   -- the texts of the four byte strings of an accepted string
   accepted_texts : reader_number edition_two s ≡ 0 → (k : Kind) (n : NumberFields) (c : ByteString)
-      → let x : ParsedString = record { record = record { kind = k; fields = n }; places = places; values = values } in
+      → let x : ParsedString = record { reading = record { kind = k; fields = n }; places = places; values = values } in
       (canonical (chosen_text s x c) ≡ true) × (decode (chosen_text s x c) ≡ chosen c (fields_of edition_two s))
   unfolding fields_of
   accepted_texts a k n c = pick c
@@ -232,7 +232,7 @@ module _ (s : List ℕ) (z : grammar_number s ≡ 0) (places : Places) (e : plac
       at k = ap (λ (l : List OptionalText). value_at l k) (ap (λ (t : List ℕ). span_texts t values) (sym q) ∙ values_are)
 
       x : ParsedString
-      x = record { record = record { kind = k; fields = n }; places = places; values = values }
+      x = record { reading = record { kind = k; fields = n }; places = places; values = values }
 
       pick : (c : ByteString) → (canonical (chosen_text s x c) ≡ true) × (decode (chosen_text s x c) ≡ chosen c (fields_of edition_two s))
       pick Keyid = by _ (value_at vs 3) (at 3) (canonical_optional column.keyid (value_at vs 3) keyid_row)
@@ -241,7 +241,7 @@ module _ (s : List ℕ) (z : grammar_number s ≡ 0) (places : Places) (e : plac
       pick Output = by _ (pieces s).output output_is (canonical_output (pieces s).output (accepted_rows s z).1.1.1.1.1.0)
 
   pub parsed_accepted : (c : Costs) → Judged (Ok c) → (k : Kind) → ((t : List ℕ) → kind_number k ≡ kind_of (span_text t places.salt) (span_text t places.output))
-      → ParsedIs s (Ok (record { record = record { kind = k; fields = record { id = id; version = version; m = c.m; t = c.t; p = c.p } }; places = places; values = values }))
+      → ParsedIs s (Ok (record { reading = record { kind = k; fields = record { id = id; version = version; m = c.m; t = c.t; p = c.p } }; places = places; values = values }))
   parsed_accepted c d k kinds =
       record {
         number_is = judged_number (Ok c) d;

@@ -9,11 +9,14 @@ use native.Mathlib.Omega.{arith}
 use lib.ListN.{length, take, drop}
 use borrow.Rule.Slice.PartMut.{put_mid}
 use Rattle.std.specs.Prelude.{◌==◌}
-use Rattle.text.specs.Place.{has_room, Wrote, put, over, outcome, refused}
+use Rattle.std.specs.Prelude.{Result}
+use Rattle.std.specs.Result.{IsOk}
+use Rattle.refusals.specs.declared.Refusal.{Refusal}
+use Rattle.text.specs.Place.{has_room, Wrote, put, over, outcome, answered, refused}
 use Rattle.text.specs.Rows.{first_number}
 use Rattle.text.proofs.Writing.{put_clear, put_refused}
 use Rattle.text.proofs.Writers.{Asked, writer_full, writer_room, writer_over}
-use Rattle.text.proofs.Wrote.{AllFit, Chain, first_wrote, next_wrote, next_put}
+use Rattle.text.proofs.Wrote.{AllFit, Chain, first_wrote, next_wrote, next_put, next_counted}
 use Rattle.refusals.specs.Numbers.{number_of}
 use Rattle.refusals.specs.declared.Refusal.{Refusal}
 use Rattle.b64.specs.B64.{encode}
@@ -35,6 +38,13 @@ pub two_put : {d d₁ d₂ t : List ℕ} {n number count : ℕ} (u : List ℕ) �
 two_put {d} {d₁} {d₂} {t} u s r first second =
     let fits : AllFit d t (u ∷ []) = record { room = r; small = s } in
     next_put (first_wrote fits first) second
+
+-- where they fit, the second writer counts
+pub two_counted : {A : Type 0} (size : A → ℕ) {d d₁ t : List ℕ} {n : ℕ} (d₂ u : List ℕ) → length d < 2 ^ 64 → length (t ++ u) ≤ length d → Wrote t d d₁ n
+    → (w : Result A Refusal) → answered size w d₂ ≡ put d₁ n u → IsOk w
+two_counted size {d} {d₁} {t} d₂ u s r first w second =
+    let fits : AllFit d t (u ∷ []) = record { room = r; small = s } in
+    next_counted (first_wrote fits first) size w d₂ second
 
 -- at the start of what is left
 pub three_wrote : {d d₁ d₂ d₃ t u v : List ℕ} {n m k : ℕ} → length d < 2 ^ 64 → length ((t ++ u) ++ v) ≤ length d → Wrote t d d₁ n

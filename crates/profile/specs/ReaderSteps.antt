@@ -14,7 +14,7 @@ use Rattle.grammar.specs.declared.places.Span.{Span}
 use Rattle.table.specs.Limits.{Profile, edition_two}
 use Rattle.profile.specs.Fields.{chosen, read_number}
 use Rattle.profile.specs.Reader.{parameter_names, named, item_value, named_values, unmatched_items, value_at, reader_number, fields_of}
-use Rattle.profile.specs.Entries.{reading}
+use Rattle.profile.specs.Entries.{kind_number, reading}
 use Rattle.profile.specs.declared.judge.Costs.{Costs}
 use Rattle.profile.specs.declared.fields.ByteString.{ByteString}
 use Rattle.profile.specs.Entries.{Reading}
@@ -62,7 +62,7 @@ chosen_text s w Output = text_of (span_text s w.places.output)
 
 -- an accepted string: the reader's answer, and the texts of the four byte strings
 pub record AcceptedIs (s : List ℕ) (w : ParsedString) : Type 0 where
-  pub reading_is : ◌≡◌ {A = Reading} (record { number = 0; kind = kind_number w.record.kind; fields = w.record.fields }) (reading edition_two s)
+  pub reading_is : ◌≡◌ {A = Reading} (record { number = 0; kind = kind_number w.reading.kind; fields = w.reading.fields }) (reading edition_two s)
   pub texts : (c : ByteString)
       → (canonical (chosen_text s w c) ≡ true) × (decode (chosen_text s w c) ≡ chosen c (fields_of edition_two s))
 

@@ -7,7 +7,7 @@ use grammar::places::Places;
 // stand in the parameter piece.
 #[derive(Clone, Copy)]
 pub struct ParsedString {
-    pub record: Record,
+    pub reading: Record,
     pub places: Places,
     pub values: Values,
 }

@@ -91,7 +91,7 @@ fn read_pieces(s: &[u8], places: Places) -> Result<ParsedString, Refusal>
         places.output,
     )?;
     Ok(ParsedString {
-        record: Record {
+        reading: Record {
             kind: kind_of(places.salt, places.output),
             fields: NumberFields {
                 id,
@@ -119,7 +119,7 @@ pub fn read(s: &[u8]) -> Result<Record, Refusal>
     ensures { read_answer result ≡ reading edition_two s.now }
 {
     let parsed = parse(s)?;
-    Ok(parsed.record)
+    Ok(parsed.reading)
 }
 
 // The algorithm version that a reader's answer means: the one written, or the one that the profile implies; or the reader's refusal. Free answer:
@@ -168,6 +168,6 @@ pub fn byte_string(
 ) -> Result<Bytes, Refusal>
     ensures { bytes_answered result buf.new ≡ decoded edition_two choice s.now buf.old at }
 {
-    let parsed = parse(s)?;
-    decode(text_of(s, parsed, choice), buf, at)
+    let accepted = parse(s)?;
+    decode(text_of(s, accepted, choice), buf, at)
 }

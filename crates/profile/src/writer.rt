@@ -58,7 +58,13 @@ fn short_fields(id: u8) -> NumberFields
 }
 
 // Writes the string of an id, a salt and an output, with the short writer's defaults and no keyid or data. 8, 14, 15, 16, then 17.
-pub fn write_short(id: u8, salt: &[u8], output: &[u8], buf: &mut [u8], at: usize) -> Result<Chars, Refusal>
+pub fn write_short(
+    id: u8,
+    salt: &[u8],
+    output: &[u8],
+    buf: &mut [u8],
+    at: usize,
+) -> Result<Chars, Refusal>
     ensures { chars_answered result buf.new ≡ short_writing edition_two id salt.now output.now buf.old at }
 {
     write(short_fields(id), b"", b"", salt, output, buf, at)
