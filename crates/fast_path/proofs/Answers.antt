@@ -9,16 +9,18 @@ use Rattle.text.proofs.Writing.{put_clear, put_refused}
 use Rattle.table.specs.Limits.{edition_two, longest_permitted}
 use Rattle.profile.specs.Fields.{FieldSet, write_bytes}
 use Rattle.profile.specs.Reader.{reader_number, fields_of}
-use Rattle.profile.specs.Entries.{kind_of, reading}
-use Rattle.profile.specs.declared.fields.Reading.{Reading}
+use Rattle.profile.specs.Entries.{Reading, kind_of, read_answer, reading}
+use Rattle.refusals.specs.declared.Refusal.{Refusal}
+use Rattle.profile.specs.declared.fields.Record.{Record}
+use Rattle.std.specs.Prelude.{Result, Ok, Err}
+use Rattle.std.specs.Result.{IsErr}
 use Rattle.profile.proofs.SoundLaws.{edition_two-sound}
 use Rattle.profile.proofs.Accepted.{accepted}
 use Rattle.profile.proofs.ReadLaws.{reading_number}
 use Rattle.profile.proofs.Claims.{lengths, entries_agree_two}
-use Rattle.fast_path.specs.Contents.{joined_bytes, counted, refused_contents, all_decoded, contents}
+use Rattle.fast_path.specs.Contents.{joined_bytes, ContentsAnswer, counted, refused_contents, all_decoded, contents}
 use Rattle.fast_path.specs.Walk.{walked}
 use Rattle.fast_path.specs.WalkSteps.{kind_for, contents_of, StoredAll, total, StoredIs}
-use Rattle.fast_path.specs.declared.contents.Contents.{Contents}
 use Rattle.fast_path.proofs.Found.{walk_sound}
 use Rattle.fast_path.proofs.Walked.{walk_agrees}
 
@@ -71,7 +73,7 @@ walked-reading s f e =
 
 -- ---- all that a string carries
 
-pub all-refused : (s buf : List ℕ) (at : ℕ) → walked edition_two s ≡ none → (c : Contents) (r : Reading) → r ≡ reading edition_two s → c ≡ refused_contents r.number
+pub all-refused : (s buf : List ℕ) (at : ℕ) → walked edition_two s ≡ none → (c : ContentsAnswer) (r : Reading) → r ≡ reading edition_two s → c ≡ refused_contents r.number
     → (c ≡ contents edition_two s buf at) × (buf ≡ (all_decoded edition_two s buf at).buffer)
 unfolding contents all_decoded
 all-refused s buf at e c r q w =
@@ -82,6 +84,11 @@ all-refused s buf at e c r q w =
       w ∙ rw (k, ← p, ne_eqb n 0 z),
       rw (← p),
     )
+
+-- the profile's reader refuses it too
+pub refused_too : (s : List ℕ) → walked edition_two s ≡ none → (r : Result Record Refusal) → read_answer r ≡ reading edition_two s → IsErr r
+refused_too s e (Ok r) q = absurd (not-walked s e (sym (ap (λ (x : Reading). x.number) q ∙ reading_number edition_two s)))
+refused_too s e (Err f) q = refl
 
 -- the bytes that are counted are those of the fields
 counted-bytes : (f : FieldSet) (out₀ out : List ℕ) → out ≡ over out₀ 0 (joined_bytes f) → (total (contents_of f) ≡ length (joined_bytes f)) × (take (total (contents_of f)) out ≡ joined_bytes f)
@@ -95,9 +102,9 @@ counted-bytes f out₀ out e =
     ) in
     (l, rw (l, e, over_start out₀ (joined_bytes f)) (take-append_seam (joined_bytes f) (drop (length (joined_bytes f)) out₀)))
 
-module _ (s out₀ out : List ℕ) (c : Contents) (x : StoredAll (walked edition_two s) out₀ out c) where
+module _ (s out₀ out : List ℕ) (c : ContentsAnswer) (x : StoredAll (walked edition_two s) out₀ out c) where
   pub found_reading : c.reading ≡ reading edition_two s
-  found_reading = ap (λ (y : Contents). y.reading) x.contents_are ∙ walked-reading s x.fields x.found
+  found_reading = ap (λ (y : ContentsAnswer). y.reading) x.contents_are ∙ walked-reading s x.fields x.found
 
   pub found_room : total c ≤ length out
   found_room =
@@ -112,27 +119,27 @@ module _ (s out₀ out : List ℕ) (c : Contents) (x : StoredAll (walked edition
       let a = x.contents_are in
       λ i. record {
         reading = r i;
-        keyid = (ap (λ (y : Contents). y.keyid) a ∙ ap (λ (y : FieldSet). record { 0 = length y.keyid }) f) i;
-        «data» = (ap (λ (y : Contents). y.«data») a ∙ ap (λ (y : FieldSet). record { 0 = length y.«data» }) f) i;
-        salt = (ap (λ (y : Contents). y.salt) a ∙ ap (λ (y : FieldSet). record { 0 = length y.salt }) f) i;
-        output = (ap (λ (y : Contents). y.output) a ∙ ap (λ (y : FieldSet). record { 0 = length y.output }) f) i;
+        keyid = (ap (λ (y : ContentsAnswer). y.keyid) a ∙ ap (λ (y : FieldSet). record { 0 = length y.keyid }) f) i;
+        «data» = (ap (λ (y : ContentsAnswer). y.«data») a ∙ ap (λ (y : FieldSet). record { 0 = length y.«data» }) f) i;
+        salt = (ap (λ (y : ContentsAnswer). y.salt) a ∙ ap (λ (y : FieldSet). record { 0 = length y.salt }) f) i;
+        output = (ap (λ (y : ContentsAnswer). y.output) a ∙ ap (λ (y : FieldSet). record { 0 = length y.output }) f) i;
       }
 
-  pub all_found : (buf₀ : List ℕ) (at : ℕ) (buf : List ℕ) (r : Contents) → StoredIs c out buf₀ at buf r
+  pub all_found : (buf₀ : List ℕ) (at : ℕ) (buf : List ℕ) (r : ContentsAnswer) → StoredIs c out buf₀ at buf r
       → (r ≡ contents edition_two s buf₀ at) × (buf ≡ (all_decoded edition_two s buf₀ at).buffer)
   unfolding contents all_decoded
   all_found buf₀ at buf r w =
       let f = walked-fields s x.fields x.found in
       let b : take (total c) out ≡ joined_bytes (fields_of edition_two s) =
-      ap (λ (y : Contents). take (total y) out) x.contents_are ∙ (counted-bytes x.fields out₀ out x.stored).1 ∙ ap joined_bytes f in
+      ap (λ (y : ContentsAnswer). take (total y) out) x.contents_are ∙ (counted-bytes x.fields out₀ out x.stored).1 ∙ ap joined_bytes f in
       let p = put_clear buf₀ at (joined_bytes (fields_of edition_two s)) (reader_number edition_two s) (walked_answer s x.fields x.found) in (
-        w.answer ∙ rw (p, b) (ap (λ (y : Contents). cond (eqb (put buf₀ at (joined_bytes (fields_of edition_two s))).number 0) y (refused_contents (put buf₀ at (joined_bytes (fields_of edition_two s))).number)) found_contents),
+        w.answer ∙ rw (p, b) (ap (λ (y : ContentsAnswer). cond (eqb (put buf₀ at (joined_bytes (fields_of edition_two s))).number 0) y (refused_contents (put buf₀ at (joined_bytes (fields_of edition_two s))).number)) found_contents),
         w.buffer ∙ rw (p, b),
       )
 
 -- ---- into the caller's buffer
 
-module _ (c : Contents) (out buf₀ : List ℕ) (at n number count : ℕ) (left : List ℕ) (q : n ≡ total c)
+module _ (c : ContentsAnswer) (out buf₀ : List ℕ) (at n number count : ℕ) (left : List ℕ) (q : n ≡ total c)
     (e : outcome number count left ≡ put buf₀ at (take (n - 0) (drop 0 out))) where
   given : put buf₀ at (take (n - 0) (drop 0 out)) ≡ put buf₀ at (take (total c) out)
   given = let z : n - 0 ≡ total c = omega arith in ap (λ (k : ℕ). put buf₀ at (take k out)) z
@@ -143,7 +150,7 @@ module _ (c : Contents) (out buf₀ : List ℕ) (at n number count : ℕ) (left 
   left_is : left ≡ (put buf₀ at (take (total c) out)).buffer
   left_is = ap (λ (o : Outcome). o.buffer) (e ∙ given)
 
-  pub store_full : (number ≡ 0 → ⊥) → (r : Contents) → r ≡ refused_contents number → StoredIs c out buf₀ at left r
+  pub store_full : (number ≡ 0 → ⊥) → (r : ContentsAnswer) → r ≡ refused_contents number → StoredIs c out buf₀ at left r
   store_full z r w = record { answer = rw (← number_is, ne_eqb number 0 z) w; buffer = left_is }
 
   pub store_done : number ≡ 0 → StoredIs c out buf₀ at left c

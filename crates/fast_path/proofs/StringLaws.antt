@@ -23,7 +23,7 @@ use Rattle.profile.specs.declared.fields.NumberFields.{NumberFields}
 use Rattle.fast_path.specs.Walk.{Taken, taken, written_bytes, bytes_in, Pair, pair_in, keys_in, hashes_in, with_strings}
 use Rattle.fast_path.specs.WalkSteps.{most, Stored, StoredTwo, contents_for, roomy, StoredAll}
 use Rattle.fast_path.specs.Claims.{most_bytes}
-use Rattle.fast_path.specs.declared.contents.Contents.{Contents}
+use Rattle.fast_path.specs.Contents.{ContentsAnswer}
 use Rattle.fast_path.proofs.Chains.{bytes_absent}
 
 -- ---- one byte string
@@ -153,7 +153,7 @@ module _ (r : Profile) (f : NumberFields) (separator : ℕ) (s : List ℕ) (at :
       pub text_left : (last ≡ length s → ⊥) → with_strings r (taken f separator (drop at s)) ≡ none
       text_left h = rw (x.found, y.found, length_filled (drop last s) (λ z. h (omega (arith, length-drop last s, y.inside))))
 
-      pub all_strings : roomy r ≤ length out₀ → last ≡ length s → (c : Contents) → c ≡ contents_for f k (d - k) (e - d) (g - e)
+      pub all_strings : roomy r ≤ length out₀ → last ≡ length s → (c : ContentsAnswer) → c ≡ contents_for f k (d - k) (e - d) (g - e)
           → StoredAll (with_strings r (taken f separator (drop at s))) out₀ out₂ c
       unfolding found
       all_strings room h c q =

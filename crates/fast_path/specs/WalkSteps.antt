@@ -13,7 +13,7 @@ use Rattle.table.specs.declared.limits.BytesRule.TheVariants.{Sized, Forbidden}
 use Rattle.table.specs.declared.version.Version.{Version}
 use Rattle.profile.specs.Fields.{FieldSet}
 use Rattle.profile.specs.declared.fields.NumberFields.{NumberFields}
-use Rattle.fast_path.specs.Contents.{joined_bytes, refused_contents}
+use Rattle.fast_path.specs.Contents.{joined_bytes, ContentsAnswer, accepted_contents, refused_contents}
 use Rattle.fast_path.specs.Walk.{Taken, taken, leading_number, Pair}
 use Rattle.fast_path.specs.declared.contents.Contents.{Contents}
 use Rattle.fast_path.specs.declared.leading_number.LeadingNumber.{LeadingNumber}
@@ -91,7 +91,7 @@ TwoAre o high s out₀ from out (Some t) = StoredTwo o high s out₀ from out t.
 abbrev pub kind_for : ℕ → ℕ → ℕ
 kind_for salt output = cond (output == 0) (cond (salt == 0) 1 2) 3
 
-abbrev pub contents_for : NumberFields → ℕ → ℕ → ℕ → ℕ → Contents
+abbrev pub contents_for : NumberFields → ℕ → ℕ → ℕ → ℕ → ContentsAnswer
 contents_for f keyid «data» salt output =
     record {
       reading = record { number = 0; kind = kind_for salt output; fields = f };
@@ -110,12 +110,12 @@ abbrev pub buffer_length : ℕ
 buffer_length = 152
 
 -- the answer that goes with fields: accepted, and each byte string's length
-abbrev pub contents_of : FieldSet → Contents
+abbrev pub contents_of : FieldSet → ContentsAnswer
 contents_of f =
     contents_for f.numbers (length f.keyid) (length f.«data») (length f.salt) (length f.output)
 
 -- the fields were found, and their byte strings stand at the start of the buffer
-pub record StoredAll (o : Option FieldSet) (out₀ out : List ℕ) (c : Contents) : Type 0 where
+pub record StoredAll (o : Option FieldSet) (out₀ out : List ℕ) (c : ContentsAnswer) : Type 0 where
   pub fields : FieldSet
   pub found : o ≡ some fields
   pub contents_are : c ≡ contents_of fields
@@ -124,14 +124,14 @@ pub record StoredAll (o : Option FieldSet) (out₀ out : List ℕ) (c : Contents
 
 abbrev pub FoundIn : Option FieldSet → List ℕ → List ℕ → Answer Contents → Type 0
 FoundIn o out₀ out None = o ≡ none
-FoundIn o out₀ out (Some c) = StoredAll o out₀ out c
+FoundIn o out₀ out (Some c) = StoredAll o out₀ out (accepted_contents c)
 
 -- ---- into the caller's buffer
 
-abbrev pub total : Contents → ℕ
+abbrev pub total : ContentsAnswer → ℕ
 total c = c.keyid.0 + c.«data».0 + c.salt.0 + c.output.0
 
 -- the first bytes of out that c counts, put from the place on; or the refusal
-pub record StoredIs (c : Contents) (out buf₀ : List ℕ) (at : ℕ) (buf : List ℕ) (r : Contents) : Type 0 where
+pub record StoredIs (c : ContentsAnswer) (out buf₀ : List ℕ) (at : ℕ) (buf : List ℕ) (r : ContentsAnswer) : Type 0 where
   pub answer : r ≡ cond ((put buf₀ at (take (total c) out)).number == 0) c (refused_contents (put buf₀ at (take (total c) out)).number)
   pub buffer : buf ≡ (put buf₀ at (take (total c) out)).buffer

@@ -2,6 +2,8 @@
 ghost use Rattle.std.specs.Prelude.{◌≡◌, ℕ, ◌-◌, ◌≤◌, List, length, drop};
 ghost use Rattle.table.specs.Limits.{edition_two};
 ghost use Rattle.table.specs.Columns.{listed, profile_in};
+ghost use Rattle.profile.specs.Entries.{kind_number};
+ghost use Rattle.fast_path.specs.Contents.{accepted_contents};
 ghost use Rattle.fast_path.specs.Walk.{taken, allowed as allowed_version, version_in, head_in, with_strings, fields_after_id, walked};
 ghost use Rattle.fast_path.specs.WalkSteps.{VersionIs, HeadIs, kind_for, contents_for, roomy, buffer_length, FoundIn};
 
@@ -10,7 +12,7 @@ use crate::contents::Contents;
 use crate::leading_number::number;
 use crate::numbers::{Head, numbers};
 use crate::strings::{two_keys, two_pieces};
-use profile::fields::{NumberFields, Reading};
+use profile::fields::{Kind, NumberFields, Record};
 use table::bounds::version_allowed;
 use table::columns::column_of;
 use table::ids::id_number;
@@ -55,16 +57,15 @@ fn head_at(column: Column, id: u8, s: &[u8], at: usize) -> Option<Head>
     numbers(column, id, item.version, s, item.next)
 }
 
-// 1 a parameter string, 2 a salt string, 3 a hash string.
-fn kind_for(salt: usize, output: usize) -> u8
-    ensures { result ≡ kind_for salt output }
+fn kind_for(salt: usize, output: usize) -> Kind
+    ensures { kind_number result ≡ kind_for salt output }
 {
     if output != 0 {
-        3
+        Kind::Hash
     } else if salt != 0 {
-        2
+        Kind::Salt
     } else {
-        1
+        Kind::Parameters
     }
 }
 
@@ -77,11 +78,10 @@ fn contents_for(
     output_end: usize,
 ) -> Contents
     requires { (keyid_end ≤ data_end) × (data_end ≤ salt_end) × (salt_end ≤ output_end) }
-    ensures { result ≡ contents_for fields keyid_end (data_end - keyid_end) (salt_end - data_end) (output_end - salt_end) }
+    ensures { accepted_contents result ≡ contents_for fields keyid_end (data_end - keyid_end) (salt_end - data_end) (output_end - salt_end) }
 {
     Contents {
-        reading: Reading {
-            number: 0,
+        reading: Record {
             kind: kind_for(salt_end - data_end, output_end - salt_end),
             fields,
         },
