@@ -122,21 +122,21 @@ pub fn read(s: &[u8]) -> Result<Record, Refusal>
     Ok(parsed.reading)
 }
 
-// The algorithm version that a reader's answer means: the one written, or the one that the profile implies; or the reader's refusal. Free answer:
-// one made by hand goes by its fields.
-pub fn algorithm_version_of(answer: Result<Record, Refusal>) -> Result<u32, Refusal>
-    ensures { version_answer result ≡ algorithm_version_of edition_two (read_answer answer) }
+// The algorithm version that the number fields of a reader's answer mean: the one written, or the one that the profile implies. Free answer: fields
+// made by hand go by their id.
+pub fn algorithm_version_of(fields: NumberFields) -> u32
+    ensures { (number kind : ℕ) → record { number = number; version = result } ≡ algorithm_version_of edition_two (record { number = number; kind = kind; fields = fields }) }
 {
-    let record = answer?;
-    let column = column_of(record.fields.id);
-    Ok(version_or(column.implied, record.fields.version))
+    let column = column_of(fields.id);
+    version_or(column.implied, fields.version)
 }
 
 // The algorithm version that a string means, or the reader's refusal.
 pub fn algorithm_version(s: &[u8]) -> Result<u32, Refusal>
     ensures { version_answer result ≡ algorithm_version edition_two s.now }
 {
-    algorithm_version_of(read(s))
+    let found = read(s)?;
+    Ok(algorithm_version_of(found.fields))
 }
 
 // The text at a span; empty where it is not there.
