@@ -1,5 +1,6 @@
 // Batches of account lines.
 ghost use Rattle.std.specs.Prelude.{◌≤◌, ◌≡◌, length};
+ghost use Rattle.accounts.specs.Batches.{batch_answer};
 ghost use Rattle.phc.specs.Batches.{batch_length, recorded_batch, judge_outcome, recorded_judging};
 
 use crate::code::refused;

@@ -18,12 +18,14 @@ pub extern "C" fn phc_read(s: &[u8], record: &mut [u8]) -> u64
     ensures { (result ≡ (recorded s.now «record».old).number) × («record».new ≡ (recorded s.now «record».old).buffer) }
 {
     match read(s) {
-        Err(refusal) => refused(refusal),
-        Ok(_) if record.len() < RECORD_LEN => refused(Refusal::NoRoom),
         Ok(r) => {
+            if record.len() < RECORD_LEN {
+                return refused(Refusal::NoRoom);
+            }
             put_record(r, record);
             0
         }
+        Err(refusal) => refused(refusal),
     }
 }
 

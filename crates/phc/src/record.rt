@@ -52,7 +52,12 @@ fn four_words(a: usize, b: usize, c: usize, d: usize) -> [u8; 16]
 fn head_bytes(r: Record) -> [u8; 4]
     ensures { result ≡ head_bytes (read_answer (Ok r)) }
 {
-    [r.kind.number(), r.fields.id, version_flag(r.fields.version), 0]
+    [
+        r.kind.number(),
+        r.fields.id,
+        version_flag(r.fields.version),
+        0,
+    ]
 }
 
 fn number_bytes(r: Record) -> [u8; 16]

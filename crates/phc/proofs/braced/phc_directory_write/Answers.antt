@@ -1,5 +1,5 @@
 -- `phc::braced::phc_directory_write` meets its contract. Assumes nothing.
-use Rattle.std.proofs.Common.{◌≡◌, ◌∙◌, ap, refl, arith}
+use Rattle.std.proofs.Common.{◌∙◌, ap, refl, arith}
 use Rattle.table.specs.Limits.{edition_two}
 use Rattle.profile.specs.Fields.{FieldSet, field_set}
 use Rattle.directory.specs.Entries.{directory_writing}

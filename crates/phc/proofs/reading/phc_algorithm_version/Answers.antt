@@ -1,5 +1,5 @@
 -- `phc::reading::phc_algorithm_version` meets its contract. Assumes nothing.
-use Rattle.std.proofs.Common.{◌∙◌, ap, arith}
+use Rattle.std.proofs.Common.{◌∙◌, ap, ◌*◌}
 use Rattle.table.specs.Limits.{edition_two}
 use Rattle.profile.specs.Entries.{kind_number, AlgorithmVersion, algorithm_version_of, algorithm_version}
 use Rattle.phc.specs.Records.{code_of}

@@ -9,7 +9,15 @@ pub returns-in-Err : goal.returns-in-Err
 returns-in-Err c =
     let a = c.args in
     let p = record_refused a.s.now a.«record».now (read_answer (Err c.in-Err.refusal)) c.in-Err.ensures (λ z. omega (arith, number_pos c.in-Err.refusal)) in
+    (c.refused-in-Err.ensures ∙ p.0, p.1)
+
+pub returns-then-record-lt-RECORD_LEN : goal.returns-then-record-lt-RECORD_LEN
+returns-then-record-lt-RECORD_LEN c =
+    let a = c.args in
+    let p = record_full a.s.now a.«record».now (read_answer (Ok c.in-Ok.r)) c.in-Ok.ensures refl c.if-record-lt-RECORD_LEN.true in
     (c.refused.ensures ∙ p.0, p.1)
 
-pub returns : goal.returns
-returns c = ?
+pub returns-else-record-lt-RECORD_LEN : goal.returns-else-record-lt-RECORD_LEN
+returns-else-record-lt-RECORD_LEN c =
+    let a = c.args in
+    record_done a.s.now a.«record».now (read_answer (Ok c.in-Ok.r)) c.in-Ok.ensures refl c.if-record-lt-RECORD_LEN.false _ c.put_record.ensures
