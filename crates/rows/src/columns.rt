@@ -2,7 +2,7 @@
 ghost use Rattle.std.specs.Prelude.{◌≤◌, ◌≡◌};
 ghost use Rattle.rows.specs.Columns.{column_at, decimal_up_to, version_in, number_fields_in};
 
-use decimal::reader::{Limited, read_within};
+use decimal::reader::read_within;
 use profile::fields::NumberFields;
 use table::version::Version;
 use text::scan::{nth_part, same_text};
@@ -15,13 +15,11 @@ pub fn column(line: &[u8], index: usize) -> &[u8]
 }
 
 // A decimal of at most `high`. Free answer: 0 for any other text.
+#[tactic(auto, using(crate::proofs::ColumnLaws::value_or, crate::proofs::ColumnLaws::decimal_bound))]
 pub fn decimal(text: &[u8], high: u64) -> u64
     ensures { (result ≡ decimal_up_to high text.now) × (result ≤ high) }
 {
-    match read_within(text, 0, high) {
-        Limited::Value(n) => n,
-        Limited::Malformed | Limited::Outside => 0,
-    }
+    read_within(text, 0, high).unwrap_or(0)
 }
 
 // The id, 0 where the column holds no number of 8 bits.

@@ -3,12 +3,13 @@ use crate::buffer::PLACE;
 use crate::columns::number_fields;
 use crate::hex::hex_column;
 use profile::fields::NumberFields;
-use text::place::Written;
+use refusals::Refusal;
+use text::units::Chars;
 
 // What a writer of number fields, keyid, data, salt and output gives for a row, into a buffer from PLACE on.
-pub fn write_fields<F>(line: &[u8], buf: &mut [u8], write: F) -> Written
+pub fn write_fields<F>(line: &[u8], buf: &mut [u8], write: F) -> Result<Chars, Refusal>
 where
-    F: FnOnce(NumberFields, &[u8], &[u8], &[u8], &[u8], &mut [u8], usize) -> Written,
+    F: FnOnce(NumberFields, &[u8], &[u8], &[u8], &[u8], &mut [u8], usize) -> Result<Chars, Refusal>,
     requires { F.IsAlwaysCallable write }
 {
     let keyid = hex_column(line, 5);

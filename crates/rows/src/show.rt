@@ -1,7 +1,8 @@
 // Answers on standard output, each column after its tab.
 use grammar::places::{Span, part};
-use profile::fields::Reading;
+use profile::fields::{NumberFields, Record};
 use readers::show::{show, show_number};
+use refusals::{Refusal, number_of};
 use std::io::Write;
 use table::version::Version;
 use text::units::Chars;
@@ -13,10 +14,22 @@ fn show_version<W: Write>(out: &mut W, v: Version) {
     }
 }
 
+// What stands for the fields of a refused string.
+const NO_FIELDS: NumberFields = NumberFields {
+    id: 0,
+    version: Version::Absent,
+    m: 0,
+    t: 0,
+    p: 0,
+};
+
 // number, kind, id, version, m, t, p
-pub fn show_reading<W: Write>(out: &mut W, r: Reading) {
-    let fields = r.fields;
-    for n in [r.number, r.kind, fields.id] {
+pub fn show_reading<W: Write>(out: &mut W, answer: Result<Record, Refusal>) {
+    let (kind, fields) = match answer {
+        Ok(record) => (record.kind.number(), record.fields),
+        Err(_) => (0, NO_FIELDS),
+    };
+    for n in [number_of(&answer), kind, fields.id] {
         show_number(out, n);
     }
     show_version(out, fields.version);

@@ -4,12 +4,15 @@
 // Columns: encode, decode or number, text, place; range, text, low, high; string or places, text.
 #![tactic(auto)]
 
-use decimal::reader::{Limited, read_decimal, read_within};
+use decimal::error::DecimalError;
+use decimal::reader::{read_decimal, read_within};
 use grammar::parts::{item_name, item_value, piece};
+use grammar::pieces::{Layout, read};
 use grammar::places::{Piece, Span};
 use readers::filled::{Filled, INPUT};
 use readers::lines::Lines;
 use readers::show::{show, show_number};
+use refusals::{Refusal, number_of};
 use std::io::Write;
 use text::scan::nth_part;
 
@@ -20,16 +23,13 @@ fn column(line: &[u8], index: usize) -> &[u8] {
 
 // A column read as a decimal; 0 for any other text.
 fn count(line: &[u8], index: usize) -> u64 {
-    match read_within(column(line, index), 0, u64::MAX) {
-        Limited::Value(n) => n,
-        Limited::Malformed | Limited::Outside => 0,
-    }
+    read_within(column(line, index), 0, u64::MAX).unwrap_or(0)
 }
 
 // number, count, the buffer
-fn outcome<W: Write>(out: &mut W, answer: u8, count: usize, buf: &[u8]) {
-    show_number(out, answer);
-    show_number(out, count);
+fn outcome<W: Write>(out: &mut W, answer: Result<usize, Refusal>, buf: &[u8]) {
+    show_number(out, number_of(&answer));
+    show_number(out, answer.unwrap_or(0));
     show(out, b"\t");
     show(out, buf);
 }
@@ -37,33 +37,33 @@ fn outcome<W: Write>(out: &mut W, answer: u8, count: usize, buf: &[u8]) {
 fn encode<W: Write>(out: &mut W, line: &[u8]) {
     let mut buf = [b'.'; 12];
     let at = count(line, 2) as usize;
-    let r = b64::encoder::encode(column(line, 1), &mut buf, at);
-    outcome(out, r.number, r.count.0, &buf);
+    let answer = b64::encoder::encode(column(line, 1), &mut buf, at);
+    outcome(out, answer.map(|count| count.0), &buf);
 }
 
 fn decode<W: Write>(out: &mut W, line: &[u8]) {
     let mut buf = [b'.'; 10];
     let at = count(line, 2) as usize;
-    let r = b64::decoder::decode(column(line, 1), &mut buf, at);
-    outcome(out, r.number, r.count.0, &buf);
+    let answer = b64::decoder::decode(column(line, 1), &mut buf, at);
+    outcome(out, answer.map(|count| count.0), &buf);
 }
 
-// The number read is written again.
+// The number read is written again; 0 for any other text.
 fn decimal<W: Write>(out: &mut W, line: &[u8]) {
-    let d = read_decimal(column(line, 1));
+    let answer = read_decimal(column(line, 1)).map_err(Refusal::from);
     let mut buf = [b'.'; 24];
     let at = count(line, 2) as usize;
-    let w = decimal::writer::write_decimal(d.value, &mut buf, at);
-    show_number(out, d.number);
-    outcome(out, w.number, w.count.0, &buf);
+    let written = decimal::writer::write_decimal(answer.unwrap_or(0), &mut buf, at);
+    show_number(out, number_of(&answer));
+    outcome(out, written.map(|count| count.0), &buf);
 }
 
 // M malformed, O outside, or the value.
 fn range<W: Write>(out: &mut W, line: &[u8]) {
     match read_within(column(line, 1), count(line, 2), count(line, 3)) {
-        Limited::Malformed => show(out, b"\tM"),
-        Limited::Outside => show(out, b"\tO"),
-        Limited::Value(n) => show_number(out, n),
+        Err(DecimalError::Malformed) => show(out, b"\tM"),
+        Err(DecimalError::Outside) => show(out, b"\tO"),
+        Ok(n) => show_number(out, n),
     }
 }
 
@@ -75,9 +75,9 @@ fn item<W: Write>(out: &mut W, s: &[u8], index: usize) {
 
 // number, items, the five pieces, the items at 0 and 1
 fn string<W: Write>(out: &mut W, s: &[u8]) {
-    let layout = grammar::pieces::read(s);
-    show_number(out, layout.number);
-    show_number(out, layout.items);
+    let answer = read(s);
+    show_number(out, number_of(&answer));
+    show_number(out, answer.map_or(0, |layout| layout.items));
     show(out, b"\t");
     show(out, piece(s, Piece::Id));
     for which in [Piece::Version, Piece::Params, Piece::Salt, Piece::Output] {
@@ -97,8 +97,11 @@ fn span<W: Write>(out: &mut W, w: Span) {
 }
 
 fn places<W: Write>(out: &mut W, s: &[u8]) {
-    let p = grammar::pieces::read(s).places;
-    for w in [p.id, p.version, p.params, p.salt, p.output] {
+    let spans = match read(s) {
+        Ok(Layout { places: p, .. }) => [p.id, p.version, p.params, p.salt, p.output],
+        Err(_) => [Span::NONE; 5],
+    };
+    for w in spans {
         span(out, w);
     }
 }
