@@ -4,7 +4,6 @@ ghost use Rattle.text.specs.Place.{chars_answered, put};
 ghost use Rattle.decimal.specs.Decimal.{value, digits, decimal_text};
 ghost use Rattle.decimal.specs.Numerals.{decimal_writing};
 
-use crate::signs::complement;
 use refusals::Refusal;
 use text::place::has_room;
 use text::units::Chars;
@@ -13,11 +12,7 @@ use text::units::Chars;
 fn magnitude(value: i64) -> u64
     ensures { result ≡ nat_abs value }
 {
-    if value < 0 {
-        complement(value) as u64 + 1
-    } else {
-        value as u64
-    }
+    value.unsigned_abs()
 }
 
 // How many digits the shortest text of a number has.
