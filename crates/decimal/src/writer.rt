@@ -19,13 +19,10 @@ fn magnitude(value: i64) -> u64
 fn count_digits(value: u64) -> usize
     ensures { result ≡ length (digits value) }
 {
-    let mut k: usize = 1;
-    let mut rest = value;
-    while 10 <= rest {
-        rest = rest / 10;
-        k += 1;
+    if value < 10 {
+        return 1;
     }
-    k
+    value.ilog10() as usize + 1
 }
 
 // Puts the shortest text of a number at the start of a buffer, from its last digit on.
