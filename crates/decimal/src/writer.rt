@@ -31,14 +31,11 @@ fn put_digits(value: u64, buf: &mut [u8]) -> usize
     ensures { (result ≡ length (digits value)) × (buf.new ≡ digits value ++ drop (length (digits value)) buf.old) }
 {
     let count = count_digits(value);
-    let mut i = count - 1;
     let mut rest = value;
-    while 10 <= rest {
-        buf[i] = 48 + (rest % 10) as u8;
-        rest = rest / 10;
-        i -= 1;
+    for i in (0..count).rev() {
+        buf[i] = b'0' + (rest % 10) as u8;
+        rest /= 10;
     }
-    buf[0] = 48 + rest as u8;
     count
 }
 
