@@ -18,8 +18,7 @@ use Rattle.text.proofs.Scanning.{find_from_le}
 use Rattle.text.proofs.Prefixes.{drop_min}
 use Rattle.text.proofs.Over.{over-nil, over-over, over-set}
 use Rattle.accounts.specs.Lines.{lines, lines_left, lines_text, line_answer}
-use Rattle.accounts.specs.Batches.{numbers_of, batch_count, place_after, BatchOutcome, batch_outcome, judged, not_judged, batched}
-use Rattle.accounts.specs.declared.batch.Batch.{Batch}
+use Rattle.accounts.specs.Batches.{numbers_of, batch_count, place_after, BatchAnswer, BatchOutcome, batch_outcome, judged, not_judged, batched}
 use Rattle.accounts.proofs.TextLines.{none_left, line_and_left, some_left}
 
 -- ---- the place after some lines
@@ -146,7 +145,7 @@ module _ (s : List ℕ) (from limit : ℕ) (d : List ℕ) (most : ℕ) (q : most
       enough
 
   -- what is judged into so many answers is what the limit asks for
-  pub batch_part : (b : Batch) (a : List ℕ) → batch_outcome b a ≡ batched s from (length (take most d)) (take most d) → batch_outcome b (a ++ drop most d) ≡ batched s from limit d
+  pub batch_part : (b : BatchAnswer) (a : List ℕ) → batch_outcome b a ≡ batched s from (length (take most d)) (take most d) → batch_outcome b (a ++ drop most d) ≡ batched s from limit d
   batch_part b a e =
       let n = part_size in
       let u = numbers_of (take limit (lines_left s from)) in

@@ -10,6 +10,7 @@ use lib.Dec.{eqb}
 use lib.ListN.{length, take, drop, length-take, length-drop}
 use lib.Seq.{take-take}
 use borrow.Author.Tests.{leb-true, le-leb}
+use Rattle.std.proofs.Common.{Result, Ok, Err}
 use Rattle.text.specs.Text.{line_feed, has, find, cut, concat}
 use Rattle.text.specs.Place.{outcome, has_room, over, put}
 use Rattle.text.proofs.Lists.{has-append, cut_free, cut_whole, take_free}
@@ -20,9 +21,11 @@ use Rattle.text.proofs.Prefixes.{take-cut, same_prefix}
 use Rattle.accounts.specs.Lines.{last_line, lines_from, line_answer}
 use Rattle.accounts.specs.Listing.{row_text, rows_from, next_line}
 use Rattle.accounts.specs.Feeding.{held_of, Fed, fed, next_fed, end_put, Calls, row, full, used, end, left_of, most_kept}
+use Rattle.refusals.specs.declared.Refusal.{Refusal}
+use Rattle.refusals.specs.declared.Refusal.TheVariants.{NoRoom}
 use Rattle.accounts.specs.declared.line.Answer.{Answer}
 use Rattle.accounts.specs.declared.listing.Listed.{Listed}
-use Rattle.accounts.specs.declared.listing.Listed.TheVariants.{Row, UsedUp, NoRoom}
+use Rattle.accounts.specs.declared.listing.Listed.TheVariants.{Row, UsedUp}
 use Rattle.accounts.proofs.TextLines.{from_plain_lem, from_line}
 use Rattle.accounts.proofs.LineLaws.{answer_long}
 
@@ -65,25 +68,25 @@ held_back d u h = ap (λ (v : List ℕ). (cut line_feed v).0) (over_back d u 0 (
 -- ---- what a call's answer says
 
 -- the place, the count and the next line of a row; the bytes kept
-place_of : Listed → ℕ
-place_of (Row place count line) = place
-place_of (UsedUp kept) = kept
-place_of NoRoom = 0
+place_of : Result Listed Refusal → ℕ
+place_of (Ok (Row place count line)) = place
+place_of (Ok (UsedUp kept)) = kept
+place_of (Err e) = 0
 
-count_of : Listed → ℕ
-count_of (Row place count line) = count.0
-count_of (UsedUp kept) = 0
-count_of NoRoom = 0
+count_of : Result Listed Refusal → ℕ
+count_of (Ok (Row place count line)) = count.0
+count_of (Ok (UsedUp kept)) = 0
+count_of (Err e) = 0
 
-line_of : Listed → ℕ
-line_of (Row place count line) = line
-line_of (UsedUp kept) = 0
-line_of NoRoom = 0
+line_of : Result Listed Refusal → ℕ
+line_of (Ok (Row place count line)) = line
+line_of (Ok (UsedUp kept)) = 0
+line_of (Err e) = 0
 
-case_of : Listed → ℕ
-case_of (Row place count line) = 0
-case_of (UsedUp kept) = 1
-case_of NoRoom = 2
+case_of : Result Listed Refusal → ℕ
+case_of (Ok (Row place count line)) = 0
+case_of (Ok (UsedUp kept)) = 1
+case_of (Err e) = 2
 
 module _ (d : List ℕ) (kept n : ℕ) (p : List ℕ) (from : ℕ) (buffer : List ℕ) (at : ℕ) (array left : List ℕ) where
   abbrev rest : List ℕ
@@ -99,13 +102,13 @@ module _ (d : List ℕ) (kept n : ℕ) (p : List ℕ) (from : ℕ) (buffer : Lis
     place_is : place ≡ suc (from + find line_feed rest)
     line_is : line ≡ next_line n
 
-  row_says : (place count line : ℕ) → next_fed d kept n p from buffer at ≡ fed (Row place (record { 0 = count }) line) array left → RowSays place count line
+  row_says : (place count line : ℕ) → next_fed d kept n p from buffer at ≡ fed (Ok (Row place (record { 0 = count }) line)) array left → RowSays place count line
   unfolding next_fed place_of count_of line_of case_of
   row_says place count line e = go (has line_feed rest) refl (has_room (length buffer) at (length text)) refl (has_room (length buffer) at 0) e
     where
       go : (q : Bool) → has line_feed rest ≡ q → (r : Bool) → has_room (length buffer) at (length text) ≡ r → (k : Bool)
-          → cond q (cond r (fed (Row (suc (from + find line_feed rest)) (record { 0 = length text }) (next_line n)) d (over buffer at text)) (fed NoRoom d buffer)) (cond k (fed (UsedUp (length (take most_kept (held_of d kept ++ rest)))) (over d 0 (take most_kept (held_of d kept ++ rest))) buffer) (fed NoRoom d buffer))
-          ≡ fed (Row place (record { 0 = count }) line) array left
+          → cond q (cond r (fed (Ok (Row (suc (from + find line_feed rest)) (record { 0 = length text }) (next_line n))) d (over buffer at text)) (fed (Err NoRoom) d buffer)) (cond k (fed (Ok (UsedUp (length (take most_kept (held_of d kept ++ rest))))) (over d 0 (take most_kept (held_of d kept ++ rest))) buffer) (fed (Err NoRoom) d buffer))
+          ≡ fed (Ok (Row place (record { 0 = count }) line)) array left
           → RowSays place count line
       go true h true t k e =
           let c : length text ≡ count = ap (λ (x : Fed). count_of x.listed) e in
@@ -121,13 +124,13 @@ module _ (d : List ℕ) (kept n : ℕ) (p : List ℕ) (from : ℕ) (buffer : Lis
       go false h r t true e = let z : ◌≡◌ {A = ℕ} 1 0 = ap (λ (x : Fed). case_of x.listed) e in absurd (omega arith)
       go false h r t false e = let z : ◌≡◌ {A = ℕ} 2 0 = ap (λ (x : Fed). case_of x.listed) e in absurd (omega arith)
 
-  full_says : next_fed d kept n p from buffer at ≡ fed NoRoom array left → array ≡ d
+  full_says : next_fed d kept n p from buffer at ≡ fed (Err NoRoom) array left → array ≡ d
   unfolding next_fed case_of
   full_says e = go (has line_feed rest) (has_room (length buffer) at (length text)) (has_room (length buffer) at 0) e
     where
       go : (q r k : Bool)
-          → cond q (cond r (fed (Row (suc (from + find line_feed rest)) (record { 0 = length text }) (next_line n)) d (over buffer at text)) (fed NoRoom d buffer)) (cond k (fed (UsedUp (length (take most_kept (held_of d kept ++ rest)))) (over d 0 (take most_kept (held_of d kept ++ rest))) buffer) (fed NoRoom d buffer))
-          ≡ fed NoRoom array left
+          → cond q (cond r (fed (Ok (Row (suc (from + find line_feed rest)) (record { 0 = length text }) (next_line n))) d (over buffer at text)) (fed (Err NoRoom) d buffer)) (cond k (fed (Ok (UsedUp (length (take most_kept (held_of d kept ++ rest))))) (over d 0 (take most_kept (held_of d kept ++ rest))) buffer) (fed (Err NoRoom) d buffer))
+          ≡ fed (Err NoRoom) array left
           → array ≡ d
       go true true k e = let z : ◌≡◌ {A = ℕ} 0 2 = ap (λ (x : Fed). case_of x.listed) e in absurd (omega arith)
       go true false k e = sym (ap (λ (x : Fed). x.array) e)
@@ -139,13 +142,13 @@ module _ (d : List ℕ) (kept n : ℕ) (p : List ℕ) (from : ℕ) (buffer : Lis
     more_is : more ≡ length (take most_kept (held_of d kept ++ rest))
     array_is : array ≡ over d 0 (take most_kept (held_of d kept ++ rest))
 
-  used_says : (more : ℕ) → next_fed d kept n p from buffer at ≡ fed (UsedUp more) array left → UsedSays more
+  used_says : (more : ℕ) → next_fed d kept n p from buffer at ≡ fed (Ok (UsedUp more)) array left → UsedSays more
   unfolding next_fed place_of case_of
   used_says more e = go (has line_feed rest) refl (has_room (length buffer) at (length text)) (has_room (length buffer) at 0) e
     where
       go : (q : Bool) → has line_feed rest ≡ q → (r k : Bool)
-          → cond q (cond r (fed (Row (suc (from + find line_feed rest)) (record { 0 = length text }) (next_line n)) d (over buffer at text)) (fed NoRoom d buffer)) (cond k (fed (UsedUp (length (take most_kept (held_of d kept ++ rest)))) (over d 0 (take most_kept (held_of d kept ++ rest))) buffer) (fed NoRoom d buffer))
-          ≡ fed (UsedUp more) array left
+          → cond q (cond r (fed (Ok (Row (suc (from + find line_feed rest)) (record { 0 = length text }) (next_line n))) d (over buffer at text)) (fed (Err NoRoom) d buffer)) (cond k (fed (Ok (UsedUp (length (take most_kept (held_of d kept ++ rest))))) (over d 0 (take most_kept (held_of d kept ++ rest))) buffer) (fed (Err NoRoom) d buffer))
+          ≡ fed (Ok (UsedUp more)) array left
           → UsedSays more
       go true h true k e = let z : ◌≡◌ {A = ℕ} 0 1 = ap (λ (x : Fed). case_of x.listed) e in absurd (omega arith)
       go true h false k e = let z : ◌≡◌ {A = ℕ} 2 1 = ap (λ (x : Fed). case_of x.listed) e in absurd (omega arith)
@@ -209,12 +212,12 @@ module _ (d : List ℕ) (kept n : ℕ) (p : List ℕ) (from : ℕ) where
   row_of = row_text n (line_answer (held_of d kept ++ (cut line_feed rest_of).0))
 
   next_row : has line_feed rest_of ≡ true
-      → next_fed d kept n p from row_of 0 ≡ fed (Row (suc (from + find line_feed rest_of)) (record { 0 = length row_of }) (next_line n)) d (over row_of 0 row_of)
+      → next_fed d kept n p from row_of 0 ≡ fed (Ok (Row (suc (from + find line_feed rest_of)) (record { 0 = length row_of }) (next_line n))) d (over row_of 0 row_of)
   unfolding next_fed
   next_row h = rw (h, le-leb (0 + length row_of) (length row_of) (omega arith))
 
   next_used : has line_feed rest_of ≡ false → next_fed d kept n p from [] 0
-      ≡ fed (UsedUp (length (take most_kept (held_of d kept ++ rest_of)))) (over d 0 (take most_kept (held_of d kept ++ rest_of))) []
+      ≡ fed (Ok (UsedUp (length (take most_kept (held_of d kept ++ rest_of))))) (over d 0 (take most_kept (held_of d kept ++ rest_of))) []
   unfolding next_fed
   next_used h = rw h
 

@@ -9,10 +9,15 @@ use borrow.Author.Tests.{le-leb, lt-leb}
 use lib.ListN.{length, take, drop, length-take, length-drop}
 use lib.Seq.{take-take, drop-drop}
 use borrow.Rule.Slice.PartMut.{put_mid}
-use Rattle.std.proofs.Common.{rules}
+use Rattle.std.proofs.Common.{rules, Result, Ok, Err}
 use Rattle.std.proofs.lemmas.Slice.{overwrites}
+use Rattle.refusals.specs.Numbers.{number_of}
+use Rattle.refusals.specs.declared.Refusal.{Refusal}
+use Rattle.refusals.specs.declared.Refusal.TheVariants.{NoRoom}
+use Rattle.refusals.proofs.Numbers.{number_pos}
 use Rattle.text.specs.Text.{line_feed, has, find, cut, next_at}
-use Rattle.text.specs.Place.{Outcome, outcome, refused, has_room, over, put}
+use Rattle.text.specs.declared.units.Chars.{Chars}
+use Rattle.text.specs.Place.{Outcome, outcome, refused, chars_answered, has_room, over, put}
 use Rattle.text.proofs.Scanning.{find-le}
 use Rattle.text.proofs.Splitting.{cut_before, found, unfound, cut_to}
 use Rattle.text.proofs.Prefixes.{take_min, kept_count, kept_over}
@@ -22,7 +27,7 @@ use Rattle.accounts.specs.Feeding.{most_kept, held_of, fed, row_fed, next_fed}
 use Rattle.accounts.specs.FeedingSteps.{Held}
 use Rattle.accounts.specs.declared.line.Answer.{Answer}
 use Rattle.accounts.specs.declared.listing.Listed.{Listed}
-use Rattle.accounts.specs.declared.listing.Listed.TheVariants.{Row, UsedUp, NoRoom}
+use Rattle.accounts.specs.declared.listing.Listed.TheVariants.{Row, UsedUp}
 
 -- ---- the bytes that a state stands for
 
@@ -72,33 +77,40 @@ end_row d kept count n h z a e =
 
 -- ---- a row, by the room
 
-module _ (d buf left t : List ℕ) (n place at number count : ℕ) where
-  pub row_full : (number ≡ 0 → ⊥) → outcome number count left ≡ put buf at t → fed NoRoom d left ≡ row_fed n t place d buf at
-  unfolding put
-  row_full z e = go (has_room (length buf) at (length t)) e
-    where
-      go : (b : Bool) → outcome number count left ≡ cond b (outcome 0 (length t) (over buf at t)) (refused 17 buf)
-          → fed NoRoom d left ≡ cond b (fed (Row place (record { 0 = length t }) (next_line n)) d (over buf at t)) (fed NoRoom d buf)
-      go true e = absurd (z (ap (λ (o : Outcome). o.number) e))
-      go false e = ap (fed NoRoom d) (ap (λ (o : Outcome). o.buffer) e)
+-- only no room has its number
+no_room : (r : Refusal) → number_of r ≡ 17 → r ≡ NoRoom
+no_room r e = search rules
 
-  pub row_done : number ≡ 0 → outcome number count left ≡ put buf at t → (next : ℕ) → next ≡ next_line n
-      → fed (Row place (record { 0 = count }) next) d left ≡ row_fed n t place d buf at
+module _ (d buf left t : List ℕ) (n place at : ℕ) where
+  pub row_full : (r : Refusal) → chars_answered (Err r) left ≡ put buf at t → fed (Err r) d left ≡ row_fed n t place d buf at
   unfolding put
-  row_done z e next q = go (has_room (length buf) at (length t)) e
+  row_full r e = go (has_room (length buf) at (length t)) e
     where
-      go : (b : Bool) → outcome number count left ≡ cond b (outcome 0 (length t) (over buf at t)) (refused 17 buf)
-          → fed (Row place (record { 0 = count }) next) d left ≡ cond b (fed (Row place (record { 0 = length t }) (next_line n)) d (over buf at t)) (fed NoRoom d buf)
+      go : (b : Bool) → chars_answered (Err r) left ≡ cond b (outcome 0 (length t) (over buf at t)) (refused 17 buf)
+          → fed (Err r) d left ≡ cond b (fed (Ok (Row place (record { 0 = length t }) (next_line n))) d (over buf at t)) (fed (Err NoRoom) d buf)
+      go true e = let z : number_of r ≡ 0 = ap (λ (o : Outcome). o.number) e in absurd (omega (arith, number_pos r))
+      go false e =
+          let q : r ≡ NoRoom = no_room r (ap (λ (o : Outcome). o.number) e) in
+          let l : left ≡ buf = ap (λ (o : Outcome). o.buffer) e in
+          λ i. fed (Err (q i)) d (l i)
+
+  pub row_done : (count : Chars) → chars_answered (Ok count) left ≡ put buf at t → (next : ℕ) → next ≡ next_line n
+      → fed (Ok (Row place count next)) d left ≡ row_fed n t place d buf at
+  unfolding put
+  row_done count e next q = go (has_room (length buf) at (length t)) e
+    where
+      go : (b : Bool) → chars_answered (Ok count) left ≡ cond b (outcome 0 (length t) (over buf at t)) (refused 17 buf)
+          → fed (Ok (Row place count next)) d left ≡ cond b (fed (Ok (Row place (record { 0 = length t }) (next_line n))) d (over buf at t)) (fed (Err NoRoom) d buf)
       go true e =
-          let c : count ≡ length t = ap (λ (o : Outcome). o.count) e in
+          let c : count.0 ≡ length t = ap (λ (o : Outcome). o.count) e in
           let l : left ≡ over buf at t = ap (λ (o : Outcome). o.buffer) e in
-          λ i. fed (Row place (record { 0 = c i }) (q i)) d (l i)
-      go false e = let k : ◌≡◌ {A = ℕ} 0 17 = sym z ∙ ap (λ (o : Outcome). o.number) e in absurd (omega arith)
+          λ i. fed (Ok (Row place (record { 0 = c i }) (q i))) d (l i)
+      go false e = let k : ◌≡◌ {A = ℕ} 0 17 = ap (λ (o : Outcome). o.number) e in absurd (omega arith)
 
 -- ---- the next line of a part
 
 module _ (d : List ℕ) (kept held n : ℕ) (part : List ℕ) (from e : ℕ) (buf : List ℕ) where
-  pub next_row : (left : List ℕ) (at : ℕ) (r : Listed) (a : Answer) → Held d kept held → e ≡ next_at line_feed part from → e < length part
+  pub next_row : (left : List ℕ) (at : ℕ) (r : Result Listed Refusal) (a : Answer) → Held d kept held → e ≡ next_at line_feed part from → e < length part
       → a ≡ line_answer (take held d ++ take (e - from) (drop from part))
       → fed r d left ≡ row_fed n (row_text n a) (e + 1) d buf at → fed r d left ≡ next_fed d kept n part from buf at
   unfolding next_fed
@@ -112,7 +124,7 @@ module _ (d : List ℕ) (kept held n : ℕ) (part : List ℕ) (from e : ℕ) (bu
 
   pub next_used : (d₁ : List ℕ) (at more : ℕ) (rest : List ℕ) → at ≤ length buf → length d ≡ most_kept → Held d kept held → e ≡ next_at line_feed part from → length part ≤ e → rest ≡ drop from part
       → more ≡ held + length (take (most_kept - held) rest) → d₁ ≡ over d held (take (most_kept - held) rest)
-      → fed (UsedUp more) d₁ buf ≡ next_fed d kept n part from buf at
+      → fed (Ok (UsedUp more)) d₁ buf ≡ next_fed d kept n part from buf at
   unfolding next_fed
   next_used d₁ at more rest inside l h q g r m o =
       let s = drop from part in
@@ -121,9 +133,9 @@ module _ (d : List ℕ) (kept held n : ℕ) (part : List ℕ) (from e : ℕ) (bu
       let i = h.inside in
       let count : more ≡ length (take most_kept (held_of d kept ++ s)) = m ∙ ap (λ (v : List ℕ). held + length (take (most_kept - held) v)) r ∙ kept_count most_kept d s held (omega arith) i ∙ ap length u in
       let array : d₁ ≡ over d 0 (take most_kept (held_of d kept ++ s)) = o ∙ ap (λ (v : List ℕ). over d held (take (most_kept - held) v)) r ∙ kept_over most_kept d s held (omega arith) i ∙ ap (over d 0) u in
-      rw (none, le-leb (at + 0) (length buf) (omega arith)) (λ i. fed (UsedUp (count i)) (array i) buf)
+      rw (none, le-leb (at + 0) (length buf) (omega arith)) (λ i. fed (Ok (UsedUp (count i))) (array i) buf)
 
-  pub next_past : (at : ℕ) → e ≡ next_at line_feed part from → length part ≤ e → length buf < at → fed NoRoom d buf ≡ next_fed d kept n part from buf at
+  pub next_past : (at : ℕ) → e ≡ next_at line_feed part from → length part ≤ e → length buf < at → fed (Err NoRoom) d buf ≡ next_fed d kept n part from buf at
   unfolding next_fed
   next_past at q g outside =
       rw (unfound line_feed (drop from part) (omega (arith, length-drop from part)), lt-leb (at + 0) (length buf) (omega arith))

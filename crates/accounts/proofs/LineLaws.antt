@@ -8,6 +8,7 @@ use Rattle.std.proofs.lemmas.List.Quantifiers.{position-Some}
 use borrow.Author.Tests.{lt-ltb, le-ltb, ne_eqb}
 use lib.Dec.{eqb}
 use Rattle.refusals.specs.Numbers.{number_of}
+use Rattle.refusals.proofs.Numbers.{number_pos}
 use Rattle.refusals.specs.declared.Refusal.{Refusal}
 use Rattle.refusals.specs.declared.Refusal.TheVariants.{LineTooLong}
 use Rattle.text.specs.Text.{tab, find}
@@ -17,13 +18,9 @@ use Rattle.text.proofs.Writing.{tail_part}
 use Rattle.grammar.specs.Rules.{is_name}
 use Rattle.table.specs.Limits.{edition_two}
 use Rattle.profile.specs.Entries.{reading}
-use Rattle.profile.specs.declared.fields.Reading.{Reading}
+use Rattle.profile.specs.Entries.{Reading}
 use Rattle.accounts.specs.Lines.{name_of, string_of, line_refusal, line_answer, longest_line}
 use Rattle.accounts.specs.declared.line.Answer.{Answer}
-
--- a refusal's number is not that of acceptance
-positive : (r : Refusal) → 0 < number_of r
-positive r = search rules
 
 -- ---- rows 18 and 19
 
@@ -69,7 +66,7 @@ module _ (l : List ℕ) where
 
   pub answer_refused : (r : Refusal) → number_of r ≡ line_refusal l → ◌≡◌ {A = Answer} (record { number = number_of r; kind = 0 }) (line_answer l)
   unfolding line_answer
-  answer_refused r e = rw (← e, ne_eqb (number_of r) 0 (λ z. absurd (omega (arith, positive r))))
+  answer_refused r e = rw (← e, ne_eqb (number_of r) 0 (λ z. absurd (omega (arith, number_pos r))))
 
   pub answer_long : longest_line < length l → ◌≡◌ {A = Answer} (record { number = 18; kind = 0 }) (line_answer l)
   answer_long h = answer_refused LineTooLong (line_long h)

@@ -1,7 +1,9 @@
 -- Request (ii): 'Given account text and a line limit, judge at most that many lines, put each line's number from 01's list into a lent slice, in
 -- order from its start, and return the place to go on from and the count of lines judged.' A call, and every run of calls over a text.
 -- Assumes nothing.
-use Rattle.std.specs.Prelude.{ℕ, suc, ◌+◌, ◌≤◌, ◌<◌, min, cond, List, [], ◌++◌, map, ◌≡◌, leb, length, take}
+use Rattle.std.specs.Prelude.{ℕ, suc, ◌+◌, ◌≤◌, ◌<◌, min, cond, List, [], ◌++◌, map, ◌≡◌, leb, length, take, Result, Ok, Err}
+use Rattle.refusals.specs.Numbers.{number_of}
+use Rattle.refusals.specs.declared.Refusal.{Refusal}
 use Rattle.text.specs.Place.{over}
 use Rattle.accounts.specs.Lines.{lines_left, lines_text, line_answer}
 use Rattle.accounts.specs.declared.batch.Batch.{Batch}
@@ -21,12 +23,23 @@ batch_count text from limit = min limit (length (lines_left text from))
 unfoldable pub place_after : List ℕ → ℕ → ℕ → ℕ
 place_after text from limit = min (from + length (lines_text (take limit (lines_left text from)))) (length text)
 
+-- 0, the place and the count; or 17 and zeros
+pub record BatchAnswer : Type 0 where
+  pub number : ℕ
+  pub place : ℕ
+  pub count : ℕ
+
+-- what the entry gives, as that answer
+abbrev pub batch_answer : Result Batch Refusal → BatchAnswer
+batch_answer (Ok b) = record { number = 0; place = b.place; count = b.count }
+batch_answer (Err e) = record { number = number_of e; place = 0; count = 0 }
+
 -- the answer, and the slice as the call leaves it
 pub record BatchOutcome : Type 0 where
-  pub batch : Batch
+  pub batch : BatchAnswer
   pub answers : List ℕ
 
-abbrev pub batch_outcome : Batch → List ℕ → BatchOutcome
+abbrev pub batch_outcome : BatchAnswer → List ℕ → BatchOutcome
 batch_outcome batch answers = record { batch = batch; answers = answers }
 
 -- the lines were judged, and their numbers written

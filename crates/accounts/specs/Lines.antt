@@ -1,12 +1,15 @@
 -- 'one account a line: name, tab, string. A line ends at a line feed; a last line without one counts if it has any byte.' Account text: its lines,
 -- and the number of a line.
 -- Assumes nothing.
-use Rattle.std.specs.Prelude.{ℕ, not, cond, ◌&&◌, List, [], ◌∷◌, ◌++◌, ltb, eqb, length, drop}
+use Rattle.std.specs.Prelude.{ℕ, not, cond, ◌&&◌, List, [], ◌∷◌, ◌++◌, ltb, eqb, length, drop, Result, Ok, Err}
+use Rattle.refusals.specs.Numbers.{number_of}
+use Rattle.refusals.specs.declared.Refusal.{Refusal}
 use Rattle.text.specs.Text.{tab, line_feed, has, cut}
 use Rattle.text.specs.Rows.{Row, row, first_number}
 use Rattle.grammar.specs.Rules.{is_name}
 use Rattle.table.specs.Limits.{edition_two}
-use Rattle.profile.specs.Entries.{reading}
+use Rattle.profile.specs.Entries.{kind_number, reading}
+use Rattle.profile.specs.declared.fields.Kind.{Kind}
 use Rattle.accounts.specs.declared.line.Answer.{Answer}
 
 -- ---- lines
@@ -62,3 +65,8 @@ string_answer s = record { number = (reading edition_two s).number; kind = (read
 -- 18 or 19 where that row applies; otherwise what the profile reader gives for the line's own string
 unfoldable pub line_answer : List ℕ → Answer
 line_answer l = cond (eqb (line_refusal l) 0) (string_answer (string_of l)) (record { number = line_refusal l; kind = 0 })
+
+-- what the entry gives, as that answer
+abbrev pub judge_answer : Result Kind Refusal → Answer
+judge_answer (Ok k) = record { number = 0; kind = kind_number k }
+judge_answer (Err e) = record { number = number_of e; kind = 0 }

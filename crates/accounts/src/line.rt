@@ -2,29 +2,37 @@
 ghost use Rattle.std.specs.Prelude.{◌≡◌, ◌==◌, IfOk};
 ghost use Rattle.std.specs.List.{position};
 ghost use Rattle.text.specs.Text.{tab};
-ghost use Rattle.refusals.specs.Numbers.{number_of, number};
-ghost use Rattle.accounts.specs.Lines.{string_of, line_refusal, line_answer};
+ghost use Rattle.refusals.specs.Numbers.{number};
+ghost use Rattle.accounts.specs.Lines.{string_of, line_refusal, line_answer, judge_answer};
 
 use crate::limits::LONGEST_LINE;
 use fast_path::reader::read;
 use grammar::names::is_name;
+use profile::fields::Kind;
 use refusals::Refusal;
 
 // The number of a line, and the kind of its string: 1 parameters, 2 salt, 3 hash; 0 where the line is refused.
+// Numbers and no Result, as a row of the listing shows any number and kind as they are.
 #[derive(Clone, Copy)]
 pub struct Answer {
     pub number: u8,
     pub kind: u8,
 }
 
-impl Answer {
-    // That of a line that is refused.
-    pub(crate) fn refused(refusal: Refusal) -> Answer
-        ensures { result ≡ record { number = number_of refusal; kind = 0 } }
-    {
-        Answer {
-            number: refusal.number(),
-            kind: 0,
+// Those of what `judge` gives.
+impl From<Result<Kind, Refusal>> for Answer {
+    ghost from_gives = { λ judged a. a ≡ judge_answer judged };
+
+    fn from(judged: Result<Kind, Refusal>) -> Answer {
+        match judged {
+            Ok(kind) => Answer {
+                number: 0,
+                kind: kind.number(),
+            },
+            Err(refusal) => Answer {
+                number: refusal.number(),
+                kind: 0,
+            },
         }
     }
 }
@@ -52,17 +60,10 @@ fn string_of(line: &[u8]) -> Result<&[u8], Refusal>
 }
 
 // Judges one line, whatever bytes it holds: 18, 19, or what the profile reader says of all after its first tab.
-pub fn judge(line: &[u8]) -> Answer
-    ensures { result ≡ line_answer line.now }
+pub fn judge(line: &[u8]) -> Result<Kind, Refusal>
+    ensures { judge_answer result ≡ line_answer line.now }
 {
-    match string_of(line) {
-        Ok(string) => {
-            let r = read(string);
-            Answer {
-                number: r.number,
-                kind: r.kind,
-            }
-        }
-        Err(refusal) => Answer::refused(refusal),
-    }
+    let string = string_of(line)?;
+    let record = read(string)?;
+    Ok(record.kind)
 }

@@ -1,17 +1,17 @@
 // A row of the listing: the line's number, its answer and its kind, parted by tabs, with a line feed.
 ghost use Rattle.std.specs.Prelude.{◌≤◌, ◌≡◌, length};
-ghost use Rattle.text.specs.Place.{outcome, put, Wrote};
+ghost use Rattle.text.specs.Place.{chars_answered, put, Wrote};
 ghost use Rattle.accounts.specs.Listing.{header, kind_line, row_text};
 
 use crate::line::Answer;
 use decimal::writer::{unsigned_len, write_unsigned};
 use refusals::Refusal;
-use text::place::{Written, has_room, write_text};
+use text::place::{has_room, write_text};
 use text::units::Chars;
 
 // The first line of the listing, into `buf` from `at` on. 17: it doesn't fit.
-pub fn write_header(buf: &mut [u8], at: usize) -> Written
-    ensures { outcome result.number result.count.0 buf.new ≡ put buf.old at header }
+pub fn write_header(buf: &mut [u8], at: usize) -> Result<Chars, Refusal>
+    ensures { chars_answered result buf.new ≡ put buf.old at header }
 {
     write_text(b"line\tanswer\tkind\n", buf, at)
 }
@@ -42,24 +42,21 @@ fn put_row(line: u64, answer: Answer, out: &mut [u8]) -> Chars
     requires { length (row_text line answer) ≤ length out.old }
     ensures { Wrote (row_text line answer) out.old out.new result.0 }
 {
-    let mut count = write_unsigned(line, out, 0).count;
-    count = count.plus(write_text(b"\t", out, count.0).count);
-    count = count.plus(write_unsigned(u64::from(answer.number), out, count.0).count);
-    count = count.plus(write_text(b"\t", out, count.0).count);
-    count.plus(write_text(kind_line(answer.kind), out, count.0).count)
+    let mut count = write_unsigned(line, out, 0).unwrap();
+    count = count.plus(write_text(b"\t", out, count.0).unwrap());
+    count = count.plus(write_unsigned(u64::from(answer.number), out, count.0).unwrap());
+    count = count.plus(write_text(b"\t", out, count.0).unwrap());
+    count.plus(write_text(kind_line(answer.kind), out, count.0).unwrap())
 }
 
 // A row of the listing, into `buf` from `at` on. 17: it doesn't fit. Free answer: a kind past 3 is shown as `-`.
-pub fn write_row(line: u64, answer: Answer, buf: &mut [u8], at: usize) -> Written
-    ensures { outcome result.number result.count.0 buf.new ≡ put buf.old at (row_text line answer) }
+pub fn write_row(line: u64, answer: Answer, buf: &mut [u8], at: usize) -> Result<Chars, Refusal>
+    ensures { chars_answered result buf.new ≡ put buf.old at (row_text line answer) }
 {
     let count = row_len(line, answer);
     if !has_room(buf.len(), at, count.0) {
-        return Written {
-            number: Refusal::NoRoom.number(),
-            count: Chars(0),
-        };
+        return Err(Refusal::NoRoom);
     }
     put_row(line, answer, &mut buf[at..]);
-    Written { number: 0, count }
+    Ok(count)
 }

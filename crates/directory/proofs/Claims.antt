@@ -40,7 +40,7 @@ use Rattle.directory.specs.Entries.{is_directory_id, is_id_alone, directory_numb
 use Rattle.directory.specs.Claims.{HasSpelling, directory_rules, directory_entries, is_directory_reader_number, is_directory_byte_string_number, is_directory_writer_number, DirectoryClaims}
 use Rattle.directory.proofs.Prefixes.{Differ, dollar_braced, braced_dollar, dollar_view, dollar-length}
 use Rattle.directory.proofs.Texts.{which, at_most, name-length, alone_length}
-use Rattle.directory.proofs.ReaderLaws.{of_string, of_none, prefix_id, short, number_long}
+use Rattle.directory.proofs.ReaderLaws.{of_string, of_none, prefix_id, short, number_long, read_number}
 use Rattle.directory.proofs.WriterLaws.{number_row_lem, number_clear, formatted_is, NotRefused, number_zero, text_is, text-length, braced_most}
 use Rattle.directory.proofs.Examples.{text_numbers, field_numbers}
 
@@ -101,14 +101,6 @@ inverse =
     }
 
 module _ (t : List ℕ) where
-  read_number : (directory_reading edition_two t).number ≡ directory_number edition_two t
-  unfolding directory_reading directory_number
-  read_number = go (dollar_string t)
-    where
-      go : (o : OptionalText) → (maybe (refused_reading 24) (reading edition_two) o).number ≡ maybe 24 (reader_number edition_two) o
-      go none = refl
-      go (some s) = reading_number edition_two s
-
   read_fields : directory_number edition_two t ≡ 0 → (directory_reading edition_two t).fields ≡ (directory_fields edition_two t).numbers
   unfolding directory_reading directory_number directory_fields
   read_fields = go (dollar_string t)

@@ -5,23 +5,30 @@ use mathlib.Core.Bool.{true, false}
 use mathlib.Core.List.{List, [], append-nil}
 use mathlib.Core.Logic.{◌⊎◌, inl, inr}
 use mathlib.Core.Option.{none, some}
-use mathlib.Core.Path.{◌≡◌, sym, ◌∙◌, ap}
+use mathlib.Core.Path.{◌≡◌, refl, sym, ◌∙◌, ap}
 use native.Mathlib.Omega.{arith}
 use lib.ListN.{length, set}
 use borrow.Author.Tests.{ne_eqb}
+use Rattle.std.specs.Prelude.{Result, Ok, Err}
+use Rattle.std.specs.Result.{IsErr}
+use Rattle.refusals.specs.Numbers.{number_of}
+use Rattle.refusals.specs.declared.Refusal.{Refusal}
+use Rattle.refusals.specs.declared.Refusal.TheVariants.{NoSpelling}
+use Rattle.refusals.proofs.Numbers.{number_pos}
 use Rattle.text.specs.Text.{text, maybe}
 use Rattle.text.specs.Place.{refused}
 use Rattle.text.proofs.Writing.{put_refused}
 use Rattle.grammar.specs.Limits.{longest_string}
 use Rattle.grammar.specs.Pieces.{OptionalText, pieces}
 use Rattle.grammar.proofs.Reading.{bad_string_long, number_bad_string}
-use Rattle.table.specs.Limits.{Profile, edition_two}
+use Rattle.table.specs.Limits.{edition_two}
 use Rattle.profile.specs.Fields.{chosen}
 use Rattle.profile.specs.Reader.{reader_number, fields_of}
-use Rattle.profile.specs.Entries.{refused_reading, reading, decoded}
+use Rattle.profile.specs.Entries.{Reading, read_answer, refused_reading, reading, decoded}
 use Rattle.profile.specs.declared.fields.ByteString.{ByteString}
-use Rattle.profile.specs.declared.fields.Reading.{Reading}
+use Rattle.profile.specs.declared.fields.Record.{Record}
 use Rattle.profile.proofs.SoundLaws.{edition_two-sound}
+use Rattle.profile.proofs.JudgeLaws.{never_zero}
 use Rattle.profile.proofs.Allows.{not_refused}
 use Rattle.profile.proofs.Accepted.{accepted}
 use Rattle.profile.proofs.ReadLaws.{answer_refused, reading-refused, reading_number}
@@ -74,59 +81,89 @@ number_long t s d l =
     let b = bad_string_long s (omega (arith, (dollar-length t s d).0)) in
     sym (of_string 24 (reader_number edition_two) t s d ∙ answer_refused edition_two s 1 (number_bad_string s b) (λ z. omega arith))
 
-pub number_held : (t s : List ℕ) → dollar_string t ≡ some s → (r : Reading) → r ≡ reading edition_two s → r.number ≡ directory_number edition_two t
-unfolding directory_number
-number_held t s h r e = ap (λ (x : Reading). x.number) e ∙ reading_number edition_two s ∙ sym (of_string 24 (reader_number edition_two) t s h)
+pub read_number : (t : List ℕ) → (directory_reading edition_two t).number ≡ directory_number edition_two t
+unfolding directory_reading directory_number
+read_number t = go (dollar_string t)
+  where
+    go : (o : OptionalText) → (maybe (refused_reading 24) (reading edition_two) o).number ≡ maybe 24 (reader_number edition_two) o
+    go none = refl
+    go (some s) = reading_number edition_two s
 
--- ---- the number that is known first
+-- ---- the refusal that is known first
 
-pub refused_none : (t : List ℕ) → is_braced t ≡ false → (number : ℕ) → number ≡ 24 → RefusedWith t number
+pub refused_none : (t : List ℕ) → is_braced t ≡ false → RefusedWith t NoSpelling
 unfolding directory_number
-refused_none t h number e = record { not_accepted = λ z. absurd (omega (arith, e, z)); number_is = of_none 24 (reader_number edition_two) t (not_braced t h) ∙ sym e }
+refused_none t h = of_none 24 (reader_number edition_two) t (not_braced t h)
 
-pub refused_long : (t : List ℕ) → is_braced t ≡ true → longest_braced < length t → (number : ℕ) → number ≡ directory_number edition_two t → RefusedWith t number
+-- past the longest accepted text
+pub refused_long : (t : List ℕ) → is_braced t ≡ true → longest_braced < length t → (r : Result Record Refusal) → read_answer r ≡ directory_reading edition_two t → IsErr r
 unfolding directory_number
-refused_long t h l number e =
+refused_long t h l (Ok r) e =
     let (s, d) = braced_some t h in
-    record {
-      not_accepted = λ z. absurd (omega (arith, short t s d (sym (of_string 24 (reader_number edition_two) t s d) ∙ sym e ∙ z)));
-      number_is = sym e;
-    }
+    let z : 0 ≡ reader_number edition_two s = ap (λ (x : Reading). x.number) e ∙ read_number t ∙ of_string 24 (reader_number edition_two) t s d in
+    absurd (omega (arith, short t s d (sym z)))
+refused_long t h l (Err r) e = refl
+
+pub refused_with : (t : List ℕ) (r : Refusal) → refused_reading (number_of r) ≡ directory_reading edition_two t → RefusedWith t r
+refused_with t r e = sym (ap (λ (x : Reading). x.number) e ∙ read_number t)
+
+-- ---- read
+
+module _ (t s : List ℕ) (d : dollar_string t ≡ some s) where
+  pub read_string : reading edition_two s ≡ directory_reading edition_two t
+  unfolding directory_reading
+  read_string = sym (of_string (refused_reading 24) (reading edition_two) t s d)
+
+  module _ (buffer : List ℕ) (at : ℕ) where
+    pub decoded_string : (c : ByteString) → decoded edition_two c s buffer at ≡ directory_decoded edition_two c t buffer at
+    unfolding directory_decoded
+    decoded_string c = sym (of_string (refused 24 buffer) (λ (s : List ℕ). decoded edition_two c s buffer at) t s d)
+
+    pub all_decoded_string : all_decoded edition_two s buffer at ≡ directory_all_decoded edition_two t buffer at
+    unfolding directory_all_decoded
+    all_decoded_string = sym (of_string (refused 24 buffer) (λ (s : List ℕ). all_decoded edition_two s buffer at) t s d)
+
+    pub contents_string : contents edition_two s buffer at ≡ directory_contents edition_two t buffer at
+    unfolding directory_contents
+    contents_string = sym (of_string (refused_contents 24) (λ (s : List ℕ). contents edition_two s buffer at) t s d)
 
 -- ---- refused
 
-module _ (e : List Profile) (t : List ℕ) (number : ℕ) (n : number ≡ 0 → ⊥) where
-  pub read_refused : directory_number e t ≡ number → refused_reading number ≡ directory_reading e t
+module _ (t : List ℕ) (r : Refusal) (h : RefusedWith t r) where
+  pub read_refused : refused_reading (number_of r) ≡ directory_reading edition_two t
   unfolding directory_number directory_reading
-  read_refused = go (dollar_string t)
+  read_refused = go (dollar_string t) h
     where
-      go : (o : OptionalText) → maybe 24 (reader_number e) o ≡ number → refused_reading number ≡ maybe (refused_reading 24) (reading e) o
+      go : (o : OptionalText) → maybe 24 (reader_number edition_two) o ≡ number_of r → refused_reading (number_of r) ≡ maybe (refused_reading 24) (reading edition_two) o
       go none q = ap refused_reading (sym q)
-      go (some s) q = reading-refused e s number q n
+      go (some s) q = reading-refused edition_two s (number_of r) q (never_zero r)
 
   module _ (buffer : List ℕ) (at : ℕ) where
-    pub decoded-refused : (c : ByteString) → directory_number e t ≡ number → refused number buffer ≡ directory_decoded e c t buffer at
+    pub decoded-refused : (c : ByteString) → refused (number_of r) buffer ≡ directory_decoded edition_two c t buffer at
     unfolding directory_number directory_decoded decoded
-    decoded-refused c = go (dollar_string t)
+    decoded-refused c = go (dollar_string t) h
       where
-        go : (o : OptionalText) → maybe 24 (reader_number e) o ≡ number → refused number buffer ≡ maybe (refused 24 buffer) (λ (s : List ℕ). decoded e c s buffer at) o
+        go : (o : OptionalText) → maybe 24 (reader_number edition_two) o ≡ number_of r
+            → refused (number_of r) buffer ≡ maybe (refused 24 buffer) (λ (s : List ℕ). decoded edition_two c s buffer at) o
         go none q = ap (λ (k : ℕ). refused k buffer) (sym q)
-        go (some s) q = put_refused buffer at (chosen c (fields_of e s)) (reader_number e s) number q (omega (arith, n))
+        go (some s) q = put_refused buffer at (chosen c (fields_of edition_two s)) (reader_number edition_two s) (number_of r) q (number_pos r)
 
-    pub all-decoded-refused : directory_number e t ≡ number → refused number buffer ≡ directory_all_decoded e t buffer at
+    pub all-decoded-refused : refused (number_of r) buffer ≡ directory_all_decoded edition_two t buffer at
     unfolding directory_number directory_all_decoded all_decoded
-    all-decoded-refused = go (dollar_string t)
+    all-decoded-refused = go (dollar_string t) h
       where
-        go : (o : OptionalText) → maybe 24 (reader_number e) o ≡ number → refused number buffer ≡ maybe (refused 24 buffer) (λ (s : List ℕ). all_decoded e s buffer at) o
+        go : (o : OptionalText) → maybe 24 (reader_number edition_two) o ≡ number_of r
+            → refused (number_of r) buffer ≡ maybe (refused 24 buffer) (λ (s : List ℕ). all_decoded edition_two s buffer at) o
         go none q = ap (λ (k : ℕ). refused k buffer) (sym q)
-        go (some s) q = put_refused buffer at (joined_bytes (fields_of e s)) (reader_number e s) number q (omega (arith, n))
+        go (some s) q = put_refused buffer at (joined_bytes (fields_of edition_two s)) (reader_number edition_two s) (number_of r) q (number_pos r)
 
-    pub contents-refused : directory_number e t ≡ number → refused_contents number ≡ directory_contents e t buffer at
+    pub contents-refused : refused_contents (number_of r) ≡ directory_contents edition_two t buffer at
     unfolding directory_number directory_contents contents all_decoded
-    contents-refused = go (dollar_string t)
+    contents-refused = go (dollar_string t) h
       where
-        go : (o : OptionalText) → maybe 24 (reader_number e) o ≡ number → refused_contents number ≡ maybe (refused_contents 24) (λ (s : List ℕ). contents e s buffer at) o
+        go : (o : OptionalText) → maybe 24 (reader_number edition_two) o ≡ number_of r
+            → refused_contents (number_of r) ≡ maybe (refused_contents 24) (λ (s : List ℕ). contents edition_two s buffer at) o
         go none q = ap refused_contents (sym q)
         go (some s) q =
-            let r = put_refused buffer at (joined_bytes (fields_of e s)) (reader_number e s) number q (omega (arith, n)) in
-            rw (← r, ne_eqb number 0 n)
+            let p = put_refused buffer at (joined_bytes (fields_of edition_two s)) (reader_number edition_two s) (number_of r) q (number_pos r) in
+            rw (← p, ne_eqb (number_of r) 0 (never_zero r))

@@ -10,6 +10,9 @@ use lib.Dec.{eqb}
 use lib.ListN.{length, take, drop, set}
 use lib.Seq.{take-append_seam}
 use borrow.Author.Tests.{eqb-true, eqb-false}
+use Rattle.refusals.specs.Numbers.{number_of}
+use Rattle.refusals.specs.declared.Refusal.{Refusal}
+use Rattle.refusals.proofs.Numbers.{number_pos}
 use Rattle.text.specs.Text.{maybe}
 use Rattle.text.specs.Place.{Outcome, outcome, refused, put}
 use Rattle.text.specs.Rows.{row}
@@ -20,6 +23,7 @@ use Rattle.table.specs.Limits.{Profile, edition_two}
 use Rattle.profile.specs.Fields.{FieldSet}
 use Rattle.profile.specs.Writer.{writer_rows, writer_number, formatted}
 use Rattle.profile.specs.Entries.{writing}
+use Rattle.profile.proofs.JudgeLaws.{never_zero}
 use Rattle.directory.specs.Braced.{braced_text, longest_braced}
 use Rattle.directory.specs.BracedSteps.{prefix_length}
 use Rattle.directory.specs.Entries.{is_directory_id, is_id_alone, directory_writer_number, directory_formatted, directory_writing}
@@ -84,35 +88,33 @@ braced_most f z = let h = number_zero f z in omega (arith, text-length f h, at_m
 
 -- ---- as the code has it: the string in an array, whose length is that of the longest
 
-module _ (f : FieldSet) (buffer : List ℕ) (at : ℕ) where
+module _ (f : FieldSet) where
   -- refused with a number
-  stopped : (n : ℕ) → directory_writer_number edition_two f ≡ n → 0 < n → refused n buffer ≡ directory_writing edition_two f buffer at
+  stopped : (buffer : List ℕ) (at n : ℕ) → directory_writer_number edition_two f ≡ n → 0 < n → refused n buffer ≡ directory_writing edition_two f buffer at
   unfolding directory_writing
-  stopped n q z = put_refused buffer at (directory_formatted edition_two f) (directory_writer_number edition_two f) n q z
+  stopped buffer at n q z = put_refused buffer at (directory_formatted edition_two f) (directory_writer_number edition_two f) n q z
 
-  pub write_other : is_directory_id f.numbers.id ≡ false → refused 24 buffer ≡ directory_writing edition_two f buffer at
-  write_other h = stopped 24 (number_other edition_two f h) (omega arith)
+  pub write_other : (buffer : List ℕ) (at : ℕ) → is_directory_id f.numbers.id ≡ false → refused 24 buffer ≡ directory_writing edition_two f buffer at
+  write_other buffer at h = stopped buffer at 24 (number_other edition_two f h) (omega arith)
 
-  module _ (h : is_directory_id f.numbers.id ≡ true) (s s₁ : List ℕ) (l : length s ≡ longest_braced) (number count : ℕ) (w : outcome number count s₁ ≡ writing edition_two f s 0) where
+  module _ (h : is_directory_id f.numbers.id ≡ true) (s s₁ : List ℕ) (l : length s ≡ longest_braced) where
     -- the array has the room, so the number is the writer's own
-    number_is : number ≡ writer_number edition_two f
+    number_is : (number count : ℕ) → outcome number count s₁ ≡ writing edition_two f s 0 → number ≡ writer_number edition_two f
     unfolding writing
-    number_is = ap (λ (o : Outcome). o.number) w ∙ after_number (writer_number edition_two f) s (formatted edition_two f) (λ z. omega (arith, at_most f h z))
+    number_is number count w = ap (λ (o : Outcome). o.number) w ∙ after_number (writer_number edition_two f) s (formatted edition_two f) (λ z. omega (arith, at_most f h z))
 
     -- a refusal of the profile's writer is this one's
-    pub write_refused : (number ≡ 0 → ⊥) → outcome number count buffer ≡ directory_writing edition_two f buffer at
-    unfolding writing
-    write_refused n =
-        let none : count ≡ 0 = ap (λ (o : Outcome). o.count) (w ∙ sym (put_refused s 0 (formatted edition_two f) (writer_number edition_two f) number (sym number_is) (omega (arith, n)))) in
-        ap (λ (k : ℕ). outcome number k buffer) none ∙ stopped number (number_row_lem edition_two f h number number_is n) (omega (arith, n))
+    pub write_refused : (buffer : List ℕ) (at : ℕ) (r : Refusal) → refused (number_of r) s₁ ≡ writing edition_two f s 0
+        → refused (number_of r) buffer ≡ directory_writing edition_two f buffer at
+    write_refused buffer at r w = stopped buffer at (number_of r) (number_row_lem edition_two f h (number_of r) (number_is (number_of r) 0 w) (never_zero r)) (number_pos r)
 
-    module _ (z : number ≡ 0) where
+    module _ (count : ℕ) (w : outcome 0 count s₁ ≡ writing edition_two f s 0) where
       clear : writer_number edition_two f ≡ 0
-      clear = sym number_is ∙ z
+      clear = sym (number_is 0 count w)
 
       count_is : count ≡ length (formatted edition_two f)
       unfolding writing
-      count_is = (after_counted (writer_number edition_two f) s (formatted edition_two f) number count s₁ w z).1
+      count_is = (after_counted (writer_number edition_two f) s (formatted edition_two f) 0 count s₁ w refl).1
 
       pub count_most : count ≤ longest_braced
       count_most = omega (arith, count_is, at_most f h clear)
@@ -124,16 +126,16 @@ module _ (f : FieldSet) (buffer : List ℕ) (at : ℕ) where
           ap (λ (o : Outcome). o.buffer) (w ∙ after_done (writer_number edition_two f) s 0 (formatted edition_two f) clear (omega arith)) ∙ over_start s (formatted edition_two f)
 
       -- the id alone has fewer bytes than a prefix, any other string more
-      pub write_alone : count < prefix_length → refused 24 buffer ≡ directory_writing edition_two f buffer at
-      write_alone k = go (is_id_alone edition_two f) refl
+      pub write_alone : (buffer : List ℕ) (at : ℕ) → count < prefix_length → refused 24 buffer ≡ directory_writing edition_two f buffer at
+      write_alone buffer at k = go (is_id_alone edition_two f) refl
         where
           go : (b : Bool) → is_id_alone edition_two f ≡ b → refused 24 buffer ≡ directory_writing edition_two f buffer at
-          go true a = stopped 24 (number_clear edition_two f h clear ∙ ap (λ (b : Bool). cond b 24 0) a) (omega arith)
+          go true a = stopped buffer at 24 (number_clear edition_two f h clear ∙ ap (λ (b : Bool). cond b 24 0) a) (omega arith)
           go false a = absurd (omega (arith, count_is, name-length f h, more_length edition_two f a))
 
-      pub write_done : prefix_length ≤ count → put buffer at (take count (set (set s₁ 0 123) 9 125)) ≡ directory_writing edition_two f buffer at
+      pub write_done : (buffer : List ℕ) (at : ℕ) → prefix_length ≤ count → put buffer at (take count (set (set s₁ 0 123) 9 125)) ≡ directory_writing edition_two f buffer at
       unfolding directory_writing
-      write_done k = go (is_id_alone edition_two f) refl
+      write_done buffer at k = go (is_id_alone edition_two f) refl
         where
           go : (b : Bool) → is_id_alone edition_two f ≡ b → put buffer at (take count (set (set s₁ 0 123) 9 125)) ≡ directory_writing edition_two f buffer at
           go true a = absurd (omega (arith, count_is, name-length f h, alone_length edition_two f a))
@@ -146,5 +148,5 @@ module _ (f : FieldSet) (buffer : List ℕ) (at : ℕ) where
               let u : take count (set (set s₁ 0 123) 9 125) ≡ directory_formatted edition_two f =
               (λ i. take (c i) (m i)) ∙ take-append_seam t x ∙ sym (formatted_is edition_two f t q)
               in
-              let n = number_clear edition_two f h clear ∙ ap (λ (b : Bool). cond b 24 0) a in
+              let n : directory_writer_number edition_two f ≡ 0 = number_clear edition_two f h clear ∙ ap (λ (b : Bool). cond b 24 0) a in
               ap (put buffer at) u ∙ sym (put_clear buffer at (directory_formatted edition_two f) (directory_writer_number edition_two f) n)

@@ -1,6 +1,8 @@
 -- What the private functions' contracts name.
 -- Assumes nothing.
-use Rattle.std.specs.Prelude.{ℕ, ◌≡◌, Bool, true, false, List, ◌≢◌}
+use Rattle.std.specs.Prelude.{ℕ, ◌≡◌, Bool, true, false, List}
+use Rattle.refusals.specs.Numbers.{number_of}
+use Rattle.refusals.specs.declared.Refusal.{Refusal}
 use Rattle.text.specs.Text.{maybe}
 use Rattle.table.specs.Limits.{edition_two}
 use Rattle.directory.specs.Braced.{dollar_string}
@@ -14,7 +16,6 @@ prefix_length = 10
 unfoldable pub is_braced : List ℕ → Bool
 is_braced t = maybe false (λ (s : List ℕ). true) (dollar_string t)
 
--- a text that is refused, with its number
-pub record RefusedWith (t : List ℕ) (number : ℕ) : Type 0 where
-  pub not_accepted : number ≢ 0
-  pub number_is : directory_number edition_two t ≡ number
+-- what is wrong with a text that is refused
+abbrev pub RefusedWith : List ℕ → Refusal → Type 0
+RefusedWith t r = directory_number edition_two t ≡ number_of r

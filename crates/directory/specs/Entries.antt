@@ -10,11 +10,9 @@ use Rattle.table.specs.Limits.{Profile, profile_of}
 use Rattle.profile.specs.Fields.{FieldSet, field_set}
 use Rattle.profile.specs.Reader.{reader_number, fields_of}
 use Rattle.profile.specs.Writer.{writer_rows, formatted}
-use Rattle.profile.specs.Entries.{no_fields, refused_reading, reading, decoded}
+use Rattle.profile.specs.Entries.{no_fields, Reading, refused_reading, reading, decoded}
 use Rattle.profile.specs.declared.fields.ByteString.{ByteString}
-use Rattle.profile.specs.declared.fields.Reading.{Reading}
-use Rattle.fast_path.specs.Contents.{refused_contents, all_decoded, contents}
-use Rattle.fast_path.specs.declared.contents.Contents.{Contents}
+use Rattle.fast_path.specs.Contents.{ContentsAnswer, refused_contents, all_decoded, contents}
 use Rattle.directory.specs.Braced.{dollar_string, braced_text}
 
 -- ---- reading
@@ -40,7 +38,7 @@ directory_decoded e c t buffer at = of_dollar_string (refused 24 buffer) (λ (s 
 unfoldable pub directory_all_decoded : List Profile → List ℕ → List ℕ → ℕ → Outcome
 directory_all_decoded e t buffer at = of_dollar_string (refused 24 buffer) (λ (s : List ℕ). all_decoded e s buffer at) t
 
-unfoldable pub directory_contents : List Profile → List ℕ → List ℕ → ℕ → Contents
+unfoldable pub directory_contents : List Profile → List ℕ → List ℕ → ℕ → ContentsAnswer
 directory_contents e t buffer at = of_dollar_string (refused_contents 24) (λ (s : List ℕ). contents e s buffer at) t
 
 -- ---- writing

@@ -2,9 +2,11 @@
 // long one for a text that is too long to be accepted and still has a number.
 ghost use Rattle.std.specs.Prelude.{◌≡◌, true, IfOk, IfErr};
 ghost use Rattle.std.proofs.Math.Option.{some};
-ghost use Rattle.text.specs.Place.{outcome};
+ghost use Rattle.text.specs.Place.{bytes_answered};
 ghost use Rattle.table.specs.Limits.{edition_two};
-ghost use Rattle.directory.specs.Entries.{directory_number, directory_reading, directory_decoded, directory_all_decoded, directory_contents};
+ghost use Rattle.profile.specs.Entries.{read_answer};
+ghost use Rattle.fast_path.specs.Contents.{contents_answer};
+ghost use Rattle.directory.specs.Entries.{directory_reading, directory_decoded, directory_all_decoded, directory_contents};
 ghost use Rattle.directory.specs.Braced.{dollar_string};
 ghost use Rattle.directory.specs.BracedSteps.{is_braced, RefusedWith};
 
@@ -12,70 +14,66 @@ use crate::braced::{dollar_string, is_braced};
 use crate::limits::LONGEST_BRACED;
 use fast_path::contents::Contents;
 use grammar::limits::LONGEST_STRING;
-use profile::fields::{ByteString, Reading};
+use profile::fields::{ByteString, Record};
 use refusals::Refusal;
-use text::place::Decoded;
 use text::units::Bytes;
 
-// The number of a braced text of any length. After the prefix a text longer than any string is not looked at.
-fn long_number(t: &[u8]) -> u8
+// What `read` gives for a braced text of any length. After the prefix a text longer than any string is not looked at.
+fn read_long(t: &[u8]) -> Result<Record, Refusal>
     requires { is_braced t.now ≡ true }
-    ensures { result ≡ directory_number edition_two t.now }
+    ensures { read_answer result ≡ directory_reading edition_two t.now }
 {
     if LONGEST_STRING < t.len() {
-        return Refusal::BadString.number();
+        return Err(Refusal::BadString);
     }
     let mut array = [0u8; LONGEST_STRING];
-    profile::reader::read(dollar_string(t, &mut array)).number
+    profile::reader::read(dollar_string(t, &mut array))
 }
 
-// The `$` string of a braced text that is short enough to be accepted; the number of any other text.
-fn string_of<'a>(t: &[u8], array: &'a mut [u8; LONGEST_BRACED]) -> Result<&'a [u8], u8>
+// The `$` string of a braced text that is short enough to be accepted; what is wrong with any other text.
+fn string_of<'a>(t: &[u8], array: &'a mut [u8; LONGEST_BRACED]) -> Result<&'a [u8], Refusal>
     ensures refused { IfErr result (RefusedWith t.now) }
     ensures string { IfOk result (λ s. dollar_string t.now ≡ some s.now) }
 {
     if !is_braced(t) {
-        return Err(Refusal::NoSpelling.number());
+        return Err(Refusal::NoSpelling);
     }
     if LONGEST_BRACED < t.len() {
-        return Err(long_number(t));
+        // No text of so many bytes is accepted.
+        return Err(read_long(t).unwrap_err());
     }
     Ok(dollar_string(t, array))
 }
 
-// Kind and number fields of a braced text; or 24, 1, 3 to 7, 9 to 15 and zeros, version absent.
-pub fn read(t: &[u8]) -> Reading
-    ensures { result ≡ directory_reading edition_two t.now }
+// Kind and number fields of a braced text; or 24, 1, 3 to 7, 9 to 15.
+pub fn read(t: &[u8]) -> Result<Record, Refusal>
+    ensures { read_answer result ≡ directory_reading edition_two t.now }
 {
     let mut array = [0u8; LONGEST_BRACED];
-    match string_of(t, &mut array) {
-        Ok(s) => fast_path::reader::read(s),
-        Err(number) => Reading::refused(number),
-    }
+    let s = string_of(t, &mut array)?;
+    fast_path::reader::read(s)
 }
 
 // Decodes one of the four byte strings into `buf` from `at` on; the count is the decoded length, 0 when absent. The numbers of `read`, then 17.
-pub fn byte_string(t: &[u8], choice: ByteString, buf: &mut [u8], at: usize) -> Decoded
-    ensures { outcome result.number result.count.0 buf.new ≡ directory_decoded edition_two choice t.now buf.old at }
+pub fn byte_string(
+    t: &[u8],
+    choice: ByteString,
+    buf: &mut [u8],
+    at: usize,
+) -> Result<Bytes, Refusal>
+    ensures { bytes_answered result buf.new ≡ directory_decoded edition_two choice t.now buf.old at }
 {
     let mut array = [0u8; LONGEST_BRACED];
-    match string_of(t, &mut array) {
-        Ok(s) => profile::reader::byte_string(s, choice, buf, at),
-        Err(number) => Decoded {
-            number,
-            count: Bytes(0),
-        },
-    }
+    let s = string_of(t, &mut array)?;
+    profile::reader::byte_string(s, choice, buf, at)
 }
 
 // What `read` gives, how many bytes each byte string has, and keyid, data, salt and output, one after the other, in `buf` from `at` on. The
 // numbers of `read`, then 17.
-pub fn read_all(t: &[u8], buf: &mut [u8], at: usize) -> Contents
-    ensures { (result ≡ directory_contents edition_two t.now buf.old at) × (buf.new ≡ (directory_all_decoded edition_two t.now buf.old at).buffer) }
+pub fn read_all(t: &[u8], buf: &mut [u8], at: usize) -> Result<Contents, Refusal>
+    ensures { (contents_answer result ≡ directory_contents edition_two t.now buf.old at) × (buf.new ≡ (directory_all_decoded edition_two t.now buf.old at).buffer) }
 {
     let mut array = [0u8; LONGEST_BRACED];
-    match string_of(t, &mut array) {
-        Ok(s) => fast_path::reader::read_all(s, buf, at),
-        Err(number) => Contents::refused(number),
-    }
+    let s = string_of(t, &mut array)?;
+    fast_path::reader::read_all(s, buf, at)
 }

@@ -6,7 +6,10 @@ use mathlib.Core.List.{List}
 use mathlib.Core.Path.{◌≡◌, refl, ap, ◌∙◌}
 use native.Mathlib.Omega.{arith}
 use lib.Dec.{leb, eqb}
-use borrow.Author.Tests.{eqb-true, eqb-false, lt-leb}
+use borrow.Author.Tests.{eqb-true, eqb-false, ne_eqb, lt-leb}
+use Rattle.refusals.specs.Numbers.{number_of}
+use Rattle.refusals.specs.declared.Refusal.{Refusal}
+use Rattle.refusals.proofs.Numbers.{number_pos}
 use Rattle.text.specs.Place.{Outcome, outcome}
 use Rattle.text.proofs.Tests.{to_within}
 use Rattle.phc.specs.Records.{code_of, coded, is_refusal}
@@ -14,6 +17,10 @@ use Rattle.phc.specs.Records.{code_of, coded, is_refusal}
 -- what an entry gave as one answer, and the buffer as it left it
 pub answered : (n c : ℕ) (left : List ℕ) (o : Outcome) → outcome n c left ≡ o → (answer : ℕ) → answer ≡ code_of n c → (answer ≡ coded o) × (left ≡ o.buffer)
 answered n c left o e answer q = (q ∙ ap coded e, ap (λ (x : Outcome). x.buffer) e)
+
+-- of a refusal
+pub refused_code : (r : Refusal) {answer : ℕ} → answer ≡ number_of r → answer ≡ code_of (number_of r) 0
+refused_code r e = rw (ne_eqb (number_of r) 0 (λ z. omega (arith, number_pos r))) e
 
 -- a hundred times what was found is none of 1 to 99; a number up to 99 that is not 0 is
 found_tells : (found : ℕ) → is_refusal (100 * found) ≡ false

@@ -17,7 +17,7 @@ use Rattle.text.proofs.LittleEndian.{back64}
 use Rattle.text.proofs.Over.{over_start}
 use Rattle.text.proofs.Writing.{put_refused, put_clear, put_full, after_zero, after_number, after_done}
 use Rattle.accounts.specs.Batches.{batch_count, BatchOutcome, batch_outcome, judged, not_judged, batched}
-use Rattle.accounts.specs.declared.batch.Batch.{Batch}
+use Rattle.accounts.specs.Batches.{BatchAnswer}
 use Rattle.accounts.proofs.Claims.{batch_claims}
 use Rattle.phc.specs.Records.{is_refusal}
 use Rattle.phc.specs.Batches.{bytes64, number64, batch_bytes, batch_length, recorded_batch, JudgeOutcome, judge_outcome, given_batch, recorded_judging}
@@ -39,7 +39,7 @@ module _ (text : List ℕ) (from limit : ℕ) (answers result : List ℕ) where
   fit : batch_count text from limit ≤ length answers → (batched text from limit answers).batch.number ≡ 0
   fit h = ap (λ (x : BatchOutcome). x.batch.number) ((batch_claims.one_call text from limit answers).accepted h).2
 
-  abbrev b : Batch
+  abbrev b : BatchAnswer
   b = (batched text from limit answers).batch
 
   seventeen : recorded_batch b result ≡ refused 17 result → judge_outcome 17 answers result ≡ given_batch (batched text from limit answers) answers result
@@ -59,7 +59,7 @@ module _ (text : List ℕ) (from limit : ℕ) (answers result : List ℕ) where
         | no k ↦ no_batch (omega arith)
       ]
 
-  pub judge_given : batch_length ≤ length result → (c : Batch) (left : List ℕ) → batch_outcome c left ≡ batched text from limit answers
+  pub judge_given : batch_length ≤ length result → (c : BatchAnswer) (left : List ℕ) → batch_outcome c left ≡ batched text from limit answers
       → (n : ℕ) (wrote : List ℕ) → (n ≡ (recorded_batch c result).number) × (wrote ≡ (recorded_batch c result).buffer)
       → judge_outcome n left wrote ≡ recorded_judging text from limit answers result
   unfolding recorded_judging

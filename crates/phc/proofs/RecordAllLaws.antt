@@ -17,11 +17,21 @@ use Rattle.table.specs.Limits.{edition_two}
 use Rattle.profile.specs.Reader.{reader_number, fields_of}
 use Rattle.profile.specs.Entries.{refused_reading, reading}
 use Rattle.profile.proofs.ReadLaws.{reading_number}
+use Rattle.refusals.specs.Numbers.{number}
+use Rattle.refusals.specs.declared.Refusal.{Refusal}
+use Rattle.std.specs.Prelude.{Result, Ok, Err}
+use Rattle.profile.specs.Entries.{read_answer}
+use Rattle.profile.specs.declared.fields.Record.{Record}
 use Rattle.fast_path.specs.Contents.{joined_bytes, counted, refused_contents, all_decoded, contents}
-use Rattle.fast_path.specs.declared.contents.Contents.{Contents}
+use Rattle.fast_path.specs.Contents.{ContentsAnswer}
 use Rattle.directory.specs.Braced.{dollar_string}
 use Rattle.directory.specs.Entries.{directory_reading, directory_all_decoded, directory_contents}
 use Rattle.phc.specs.Records.{record_bytes, count_bytes, record_all_length, recorded_contents, all_outcome, recorded_all, directory_recorded_all}
+
+-- the number of the reader's answer
+pub read-number : (r : Result Record Refusal) → number r ≡ (read_answer r).number
+read-number (Ok r) = refl
+read-number (Err e) = refl
 
 -- the number of the contents is that of the bytes
 contents_number : (s buffer : List ℕ) → (contents edition_two s buffer 0).reading.number ≡ (all_decoded edition_two s buffer 0).number
@@ -37,7 +47,7 @@ contents_number s buffer = go (all_decoded edition_two s buffer 0).number refl (
     go n e false t = refl
 
 module _ (s «record» buffer : List ℕ) where
-  abbrev all : Contents
+  abbrev all : ContentsAnswer
   all = counted (reading edition_two s) (fields_of edition_two s)
 
   abbrev told : List ℕ
@@ -73,13 +83,13 @@ module _ (s «record» buffer : List ℕ) where
   pub fits_number : record_all_length ≤ length «record» → fits.number ≡ reader_number edition_two s
   fits_number h = after_number (reading edition_two s).number «record» told (λ z. omega arith) ∙ reading_number edition_two s
 
-  module _ (h : record_all_length ≤ length «record») (c : Contents) (e : c ≡ contents edition_two s buffer 0) (left : List ℕ) (w : left ≡ (all_decoded edition_two s buffer 0).buffer) where
+  module _ (h : record_all_length ≤ length «record») (c : ContentsAnswer) (e : c ≡ contents edition_two s buffer 0) (left : List ℕ) (w : left ≡ (all_decoded edition_two s buffer 0).buffer) where
     bytes_are : put_after fits.number buffer 0 (joined_bytes (fields_of edition_two s)) ≡ all_decoded edition_two s buffer 0
     unfolding all_decoded
     bytes_are = ap (λ (n : ℕ). put_after n buffer 0 (joined_bytes (fields_of edition_two s))) (fits_number h)
 
     number_is : c.reading.number ≡ (all_decoded edition_two s buffer 0).number
-    number_is = ap (λ (x : Contents). x.reading.number) e ∙ contents_number s buffer
+    number_is = ap (λ (x : ContentsAnswer). x.reading.number) e ∙ contents_number s buffer
 
     record_all_refused : (c.reading.number ≡ 0 → ⊥) → all_outcome c.reading.number «record» left ≡ recorded_all s «record» buffer
     unfolding recorded_all
@@ -96,7 +106,7 @@ module _ (s «record» buffer : List ℕ) where
     unfolding recorded_all
     record_all_done z wrote q =
         let n : (all_decoded edition_two s buffer 0).number ≡ 0 = sym number_is ∙ z in
-        let r = put_done «record» 0 told (omega arith) record_all_length refl wrote (q ∙ ap (λ (x : Contents). over «record» 0 (record_bytes x.reading ++ count_bytes x)) (all_is z)) in
+        let r = put_done «record» 0 told (omega arith) record_all_length refl wrote (q ∙ ap (λ (x : ContentsAnswer). over «record» 0 (record_bytes x.reading ++ count_bytes x)) (all_is z)) in
         rw (bytes_are, put_clear «record» 0 told (all_decoded edition_two s buffer 0).number n, ← r, n, w)
 
     -- what was read, given back
@@ -134,7 +144,7 @@ module _ (t «record» buffer : List ℕ) where
       go none e = ap (λ (k : ℕ). all_outcome k «record» buffer) e
       go (some s) e = record_all_short s «record» buffer h n e
 
-  pub directory_all_given : record_all_length ≤ length «record» → (c : Contents) → c ≡ directory_contents edition_two t buffer 0
+  pub directory_all_given : record_all_length ≤ length «record» → (c : ContentsAnswer) → c ≡ directory_contents edition_two t buffer 0
       → (left : List ℕ) → left ≡ (directory_all_decoded edition_two t buffer 0).buffer
       → (n : ℕ) → n ≡ (recorded_contents c «record»).number → (wrote : List ℕ) → wrote ≡ (recorded_contents c «record»).buffer
       → all_outcome n wrote left ≡ directory_recorded_all t «record» buffer

@@ -12,7 +12,7 @@ use Rattle.text.proofs.Over.{over-over}
 use Rattle.text.proofs.Writing.{put_refused, put_clear, put_full, put_done}
 use Rattle.table.specs.Limits.{edition_two}
 use Rattle.profile.specs.Entries.{reading}
-use Rattle.profile.specs.declared.fields.Reading.{Reading}
+use Rattle.profile.specs.Entries.{Reading}
 use Rattle.phc.specs.Records.{record_bytes, record_length, recorded}
 
 -- ---- bytes copied into a part of a buffer

@@ -27,7 +27,7 @@ use Rattle.profile.specs.Reader.{reader_number, fields_of}
 use Rattle.profile.specs.Writer.{Permitted, formatted}
 use Rattle.profile.specs.Entries.{no_fields, reading, writing}
 use Rattle.profile.specs.declared.fields.NumberFields.{NumberFields}
-use Rattle.profile.specs.declared.fields.Reading.{Reading}
+use Rattle.profile.specs.Entries.{Reading}
 use Rattle.profile.proofs.ReadLaws.{reading_number}
 use Rattle.profile.proofs.Promises.{promises}
 use Rattle.fast_path.specs.Contents.{joined_bytes, counted}

@@ -3,7 +3,7 @@
 use Rattle.std.specs.Prelude.{ℕ, ◌+◌, ◌*◌, ◌/◌, cond, List, ◌++◌, eqb}
 use Rattle.text.specs.Place.{Outcome, put_after}
 use Rattle.accounts.specs.Batches.{BatchOutcome, batched}
-use Rattle.accounts.specs.declared.batch.Batch.{Batch}
+use Rattle.accounts.specs.Batches.{BatchAnswer}
 use Rattle.phc.specs.Records.{bytes32}
 use Rattle.phc.specs.Writing.{number32}
 
@@ -15,14 +15,14 @@ abbrev pub number64 : List ℕ → ℕ → ℕ
 number64 t at = number32 t at + 4294967296 * number32 t (at + 4)
 
 -- place and count
-abbrev pub batch_bytes : Batch → List ℕ
+abbrev pub batch_bytes : BatchAnswer → List ℕ
 batch_bytes b = bytes64 b.place ++ bytes64 b.count
 
 abbrev pub batch_length : ℕ
 batch_length = 16
 
 -- place and count in a result's first 16 bytes; or the batch's number, then 17 where the result has fewer, and the result is as it was
-abbrev pub recorded_batch : Batch → List ℕ → Outcome
+abbrev pub recorded_batch : BatchAnswer → List ℕ → Outcome
 recorded_batch b result = put_after b.number result 0 (batch_bytes b)
 
 -- the slice of the lines' numbers, and the result

@@ -7,10 +7,8 @@ use Rattle.table.specs.Limits.{edition_two}
 use Rattle.table.specs.declared.version.Version.{Version}
 use Rattle.table.specs.declared.version.Version.TheVariants.{Absent, Number}
 use Rattle.profile.specs.Reader.{fields_of}
-use Rattle.profile.specs.Entries.{reading}
-use Rattle.profile.specs.declared.fields.Reading.{Reading}
-use Rattle.fast_path.specs.Contents.{joined_bytes, counted}
-use Rattle.fast_path.specs.declared.contents.Contents.{Contents}
+use Rattle.profile.specs.Entries.{Reading, reading}
+use Rattle.fast_path.specs.Contents.{ContentsAnswer, joined_bytes, counted}
 use Rattle.directory.specs.Entries.{of_dollar_string}
 
 -- ---- the record
@@ -49,14 +47,14 @@ recorded s buffer = let r = reading edition_two s in put_after r.number buffer 0
 -- ---- all in one call
 
 -- keyid, data, salt and output
-abbrev pub count_bytes : Contents → List ℕ
+abbrev pub count_bytes : ContentsAnswer → List ℕ
 count_bytes c = words c.keyid.0 c.«data».0 c.salt.0 c.output.0
 
 abbrev pub record_all_length : ℕ
 record_all_length = 36
 
 -- what was read, in a record's first 36 bytes; or its number, where the record is not written
-abbrev pub recorded_contents : Contents → List ℕ → Outcome
+abbrev pub recorded_contents : ContentsAnswer → List ℕ → Outcome
 recorded_contents c «record» = put_after c.reading.number «record» 0 (record_bytes c.reading ++ count_bytes c)
 
 -- a record with the counts after it, and the four byte strings one after the other

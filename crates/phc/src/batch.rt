@@ -1,7 +1,9 @@
 // Batches of account lines.
 ghost use Rattle.std.specs.Prelude.{◌≤◌, ◌≡◌, length};
+ghost use Rattle.accounts.specs.Batches.{batch_answer};
 ghost use Rattle.phc.specs.Batches.{batch_length, recorded_batch, judge_outcome, recorded_judging};
 
+use crate::code::refused;
 use accounts::batch::{Batch, judge_batch};
 use refusals::Refusal;
 
@@ -9,16 +11,18 @@ use refusals::Refusal;
 const BATCH_LEN: usize = 16;
 
 // Place and count, 64-bit little-endian numbers, in a result that has room for them: 0, or the refusal's number.
-fn give_batch(b: Batch, res: &mut [u8]) -> u64
+fn give_batch(answer: Result<Batch, Refusal>, res: &mut [u8]) -> u64
     requires { batch_length ≤ length res.old }
-    ensures { (result ≡ (recorded_batch b res.old).number) × (res.new ≡ (recorded_batch b res.old).buffer) }
+    ensures { (result ≡ (recorded_batch (batch_answer answer) res.old).number) × (res.new ≡ (recorded_batch (batch_answer answer) res.old).buffer) }
 {
-    if b.number != 0 {
-        return u64::from(b.number);
+    match answer {
+        Ok(b) => {
+            res[..8].copy_from_slice(&b.place.to_le_bytes());
+            res[8..BATCH_LEN].copy_from_slice(&b.count.to_le_bytes());
+            0
+        }
+        Err(refusal) => refused(refusal),
     }
-    res[..8].copy_from_slice(&b.place.to_le_bytes());
-    res[8..BATCH_LEN].copy_from_slice(&b.count.to_le_bytes());
-    0
 }
 
 // Judges at most `limit` lines of account text from a place on: 0, each line's number in the answers from their start, and place and count in the
@@ -34,7 +38,7 @@ pub extern "C" fn phc_judge(
     ensures { judge_outcome result answers.new res.new ≡ recorded_judging text.now from limit answers.old res.old }
 {
     if res.len() < BATCH_LEN {
-        return u64::from(Refusal::NoRoom.number());
+        return refused(Refusal::NoRoom);
     }
     give_batch(judge_batch(text, from, limit, answers), res)
 }

@@ -5,9 +5,9 @@ ghost use Rattle.directory.specs.Entries.{directory_writing};
 ghost use Rattle.phc.specs.Records.{all_outcome, directory_recorded_all, coded};
 ghost use Rattle.phc.specs.Writing.{handed};
 
-use crate::code::code_of;
+use crate::code::{found, refused};
 use crate::handed::handed_fields;
-use crate::record::{RECORD_ALL_LEN, give_all, number_or_full};
+use crate::record::{RECORD_ALL_LEN, give_all, refused_or_full};
 use directory::reader::{read, read_all};
 use directory::writer::write;
 
@@ -17,7 +17,7 @@ pub extern "C" fn phc_directory_read_all(t: &[u8], record: &mut [u8], buf: &mut 
     ensures { all_outcome result «record».new buf.new ≡ directory_recorded_all t.now «record».old buf.old }
 {
     if record.len() < RECORD_ALL_LEN {
-        return number_or_full(read(t).number);
+        return refused_or_full(read(t));
     }
     give_all(read_all(t, buf, 0), record)
 }
@@ -41,6 +41,8 @@ pub extern "C" fn phc_directory_write(
     ensures { (result ≡ coded (directory_writing edition_two (handed id has_version version m t p keyid.now «data».now salt.now output.now) buf.old 0)) × (buf.new ≡ (directory_writing edition_two (handed id has_version version m t p keyid.now «data».now salt.now output.now) buf.old 0).buffer) }
 {
     let fields = handed_fields(id, has_version, version, m, t, p);
-    let w = write(fields, keyid, data, salt, output, buf, 0);
-    code_of(w.number, w.count.0 as u64)
+    match write(fields, keyid, data, salt, output, buf, 0) {
+        Ok(count) => found(count.0 as u64),
+        Err(refusal) => refused(refusal),
+    }
 }

@@ -1,15 +1,19 @@
-// One answer for two things.
-ghost use Rattle.std.specs.Prelude.{◌≤◌, ◌≡◌};
+// One answer for two things: a hundred times what was found, or the refusal's number, which is below 100.
+ghost use Rattle.std.specs.Prelude.{◌*◌, ◌≤◌, ◌≡◌};
+ghost use Rattle.refusals.specs.Numbers.{number_of};
 ghost use Rattle.table.specs.Limits.{largest32};
-ghost use Rattle.phc.specs.Records.{code_of};
 
-// A hundred times what was found, or the refusal's number, which is below 100.
-pub fn code_of(number: u8, found: u64) -> u64
-    requires { number ≡ 0 → found ≤ largest32 }
-    ensures { result ≡ code_of number found }
+use refusals::Refusal;
+
+pub fn found(n: u64) -> u64
+    requires { n ≤ largest32 }
+    ensures { result ≡ 100 * n }
 {
-    if number != 0 {
-        return u64::from(number);
-    }
-    found * 100
+    n * 100
+}
+
+pub fn refused(refusal: Refusal) -> u64
+    ensures { result ≡ number_of refusal }
+{
+    u64::from(refusal.number())
 }

@@ -5,7 +5,7 @@ ghost use Rattle.profile.specs.Entries.{algorithm_version, decoded};
 ghost use Rattle.profile.specs.declared.fields.ByteString.TheVariants.{Keyid, Data, Salt, Output};
 ghost use Rattle.phc.specs.Records.{recorded, code_of, coded};
 
-use crate::code::code_of;
+use crate::code::{found, refused};
 use crate::record::{RECORD_LEN, put_record};
 use fast_path::reader::read;
 use profile::fields::ByteString;
@@ -17,15 +17,16 @@ use refusals::Refusal;
 pub extern "C" fn phc_read(s: &[u8], record: &mut [u8]) -> u64
     ensures { (result ≡ (recorded s.now «record».old).number) × («record».new ≡ (recorded s.now «record».old).buffer) }
 {
-    let r = read(s);
-    if r.number != 0 {
-        return u64::from(r.number);
+    match read(s) {
+        Ok(r) => {
+            if record.len() < RECORD_LEN {
+                return refused(Refusal::NoRoom);
+            }
+            put_record(r, record);
+            0
+        }
+        Err(refusal) => refused(refusal),
     }
-    if record.len() < RECORD_LEN {
-        return u64::from(Refusal::NoRoom.number());
-    }
-    put_record(r, record);
-    0
 }
 
 // The algorithm version that a string means: a hundred times it, or the reader's number.
@@ -33,16 +34,20 @@ pub extern "C" fn phc_read(s: &[u8], record: &mut [u8]) -> u64
 pub extern "C" fn phc_algorithm_version(s: &[u8]) -> u64
     ensures { result ≡ code_of (algorithm_version edition_two s.now).number (algorithm_version edition_two s.now).version }
 {
-    let v = algorithm_version_of(read(s));
-    code_of(v.number, u64::from(v.version))
+    match read(s) {
+        Ok(r) => found(u64::from(algorithm_version_of(r.fields))),
+        Err(refusal) => refused(refusal),
+    }
 }
 
 // One byte string into the buffer from its start: a hundred times the count, or the refusal's number.
 fn decode_one(s: &[u8], choice: ByteString, buf: &mut [u8]) -> u64
     ensures { (result ≡ coded (decoded edition_two choice s.now buf.old 0)) × (buf.new ≡ (decoded edition_two choice s.now buf.old 0).buffer) }
 {
-    let r = byte_string(s, choice, buf, 0);
-    code_of(r.number, r.count.0 as u64)
+    match byte_string(s, choice, buf, 0) {
+        Ok(count) => found(count.0 as u64),
+        Err(refusal) => refused(refusal),
+    }
 }
 
 // keyid, decoded: a hundred times its count, or 1 to 15, then 17.

@@ -1,11 +1,15 @@
 // A record as bytes: kind, id, 1 where a version is written, 0, then version, m, t and p as 32-bit little-endian numbers; and the counts of the
 // four byte strings after it.
-ghost use Rattle.std.specs.Prelude.{◌≤◌, ◌≡◌, cond, ◌++◌, eqb, length};
+ghost use Rattle.std.specs.Prelude.{◌≤◌, ◌≡◌, Ok, cond, ◌++◌, eqb, length};
+ghost use Rattle.refusals.specs.Numbers.{number};
 ghost use Rattle.text.specs.Place.{over};
+ghost use Rattle.profile.specs.Entries.{read_answer};
+ghost use Rattle.fast_path.specs.Contents.{accepted_contents, contents_answer};
 ghost use Rattle.phc.specs.Records.{version_flag, version_number, words, head_bytes, record_bytes, count_bytes, record_length, record_all_length, recorded_contents};
 
+use crate::code::refused;
 use fast_path::contents::Contents;
-use profile::fields::Reading;
+use profile::fields::Record;
 use refusals::Refusal;
 use table::version::Version;
 
@@ -45,13 +49,18 @@ fn four_words(a: usize, b: usize, c: usize, d: usize) -> [u8; 16]
     ]
 }
 
-fn head_bytes(r: Reading) -> [u8; 4]
-    ensures { result ≡ head_bytes r }
+fn head_bytes(r: Record) -> [u8; 4]
+    ensures { result ≡ head_bytes (read_answer (Ok r)) }
 {
-    [r.kind, r.fields.id, version_flag(r.fields.version), 0]
+    [
+        r.kind.number(),
+        r.fields.id,
+        version_flag(r.fields.version),
+        0,
+    ]
 }
 
-fn number_bytes(r: Reading) -> [u8; 16]
+fn number_bytes(r: Record) -> [u8; 16]
     ensures { result ≡ words (version_number r.fields.version) r.fields.m r.fields.t r.fields.p }
 {
     let fields = r.fields;
@@ -64,9 +73,9 @@ fn number_bytes(r: Reading) -> [u8; 16]
 }
 
 // The record at the start of a buffer that has room for it.
-pub fn put_record(r: Reading, out: &mut [u8])
+pub fn put_record(r: Record, out: &mut [u8])
     requires { record_length ≤ length out.old }
-    ensures { out.new ≡ over out.old 0 (record_bytes r) }
+    ensures { out.new ≡ over out.old 0 (record_bytes (read_answer (Ok r))) }
 {
     out[..4].copy_from_slice(&head_bytes(r));
     out[4..RECORD_LEN].copy_from_slice(&number_bytes(r));
@@ -75,7 +84,7 @@ pub fn put_record(r: Reading, out: &mut [u8])
 // The record and the counts after it.
 fn put_record_all(c: Contents, out: &mut [u8])
     requires { record_all_length ≤ length out.old }
-    ensures { out.new ≡ over out.old 0 (record_bytes c.reading ++ count_bytes c) }
+    ensures { out.new ≡ over out.old 0 (record_bytes (read_answer (Ok c.reading)) ++ count_bytes (accepted_contents c)) }
 {
     put_record(c.reading, out);
     let counts = four_words(c.keyid.0, c.data.0, c.salt.0, c.output.0);
@@ -83,24 +92,25 @@ fn put_record_all(c: Contents, out: &mut [u8])
 }
 
 // The refusal's number; 17 where there is none.
-pub fn number_or_full(number: u8) -> u64
-    ensures { result ≡ cond (eqb number 0) 17 number }
+pub fn refused_or_full(answer: Result<Record, Refusal>) -> u64
+    ensures { result ≡ cond (eqb (number answer) 0) 17 (number answer) }
 {
-    u64::from(if number == 0 {
-        Refusal::NoRoom.number()
-    } else {
-        number
-    })
+    match answer {
+        Ok(_) => refused(Refusal::NoRoom),
+        Err(refusal) => refused(refusal),
+    }
 }
 
 // What was read, into a record that has room for it: 0, or the refusal's number.
-pub fn give_all(c: Contents, record: &mut [u8]) -> u64
+pub fn give_all(answer: Result<Contents, Refusal>, record: &mut [u8]) -> u64
     requires { record_all_length ≤ length «record».old }
-    ensures { (result ≡ (recorded_contents c «record».old).number) × («record».new ≡ (recorded_contents c «record».old).buffer) }
+    ensures { (result ≡ (recorded_contents (contents_answer answer) «record».old).number) × («record».new ≡ (recorded_contents (contents_answer answer) «record».old).buffer) }
 {
-    if c.reading.number != 0 {
-        return u64::from(c.reading.number);
+    match answer {
+        Ok(c) => {
+            put_record_all(c, record);
+            0
+        }
+        Err(refusal) => refused(refusal),
     }
-    put_record_all(c, record);
-    0
 }

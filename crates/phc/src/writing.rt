@@ -5,7 +5,7 @@ ghost use Rattle.profile.specs.Entries.{writing, short_writing};
 ghost use Rattle.phc.specs.Records.{coded};
 ghost use Rattle.phc.specs.Writing.{handed};
 
-use crate::code::code_of;
+use crate::code::{found, refused};
 use crate::handed::handed_fields;
 use profile::writer::{write, write_short};
 
@@ -28,8 +28,10 @@ pub extern "C" fn phc_write(
     ensures { (result ≡ coded (writing edition_two (handed id has_version version m t p keyid.now «data».now salt.now output.now) buf.old 0)) × (buf.new ≡ (writing edition_two (handed id has_version version m t p keyid.now «data».now salt.now output.now) buf.old 0).buffer) }
 {
     let fields = handed_fields(id, has_version, version, m, t, p);
-    let w = write(fields, keyid, data, salt, output, buf, 0);
-    code_of(w.number, w.count.0 as u64)
+    match write(fields, keyid, data, salt, output, buf, 0) {
+        Ok(count) => found(count.0 as u64),
+        Err(refusal) => refused(refusal),
+    }
 }
 
 // The same for an id, a salt and an output, with the short writer's defaults and no keyid or data.
@@ -37,6 +39,8 @@ pub extern "C" fn phc_write(
 pub extern "C" fn phc_write_short(id: u8, salt: &[u8], output: &[u8], buf: &mut [u8]) -> u64
     ensures { (result ≡ coded (short_writing edition_two id salt.now output.now buf.old 0)) × (buf.new ≡ (short_writing edition_two id salt.now output.now buf.old 0).buffer) }
 {
-    let w = write_short(id, salt, output, buf, 0);
-    code_of(w.number, w.count.0 as u64)
+    match write_short(id, salt, output, buf, 0) {
+        Ok(count) => found(count.0 as u64),
+        Err(refusal) => refused(refusal),
+    }
 }

@@ -19,7 +19,7 @@ loop-answer-preserved c =
     let l = c.loop-answer in
     judging_on a.text.now a.from (length a.answers.now) a.answers.now l.answers l.place l.count (length a.answers.now - l.answer-index) l.invariant
     c.next_at-end.result (length a.answers.now - (l.answer-index + 1)) c.if-text-place.false c.next_at-end.ensures (omega (arith, c.loop-answer-test.true))
-    (omega arith) c.judge.result.number (ap (λ r. r.number) c.judge.ensures) l.answer-index (omega (arith, l.invariant.falls, c.loop-answer-test.true))
+    (omega arith) c.from.result.number (ap (λ r. r.number) (c.from.ensures ∙ c.judge.ensures)) l.answer-index (omega (arith, l.invariant.falls, c.loop-answer-test.true))
 
 pub returns : goal.returns
 returns c =

@@ -17,4 +17,4 @@ unfolding end_put
 returns c =
     let a = c.args in
     c.write_row.ensures
-    ∙ ap (put a.buf.now a.at) (sym (end_row a.array.now a.kept c.held_len-held.result a.line c.held_len-held.ensures c.if-held-eq0.false c.judge.result c.judge.ensures))
+    ∙ ap (put a.buf.now a.at) (sym (end_row a.array.now a.kept c.held_len-held.result a.line c.held_len-held.ensures c.if-held-eq0.false c.from.result (c.from.ensures ∙ c.judge.ensures)))

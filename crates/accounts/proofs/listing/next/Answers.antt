@@ -1,5 +1,5 @@
 -- `accounts::listing::next` meets its contract: a line that ends in the part, or a part that is used up. Assumes nothing.
-use Rattle.std.proofs.Common.{◌≡◌, drop, arith}
+use Rattle.std.proofs.Common.{◌≡◌, ◌∙◌, drop, arith}
 use Rattle.std.proofs.lemmas.Grind.{common_steps}
 use Rattle.accounts.proofs.FeedLaws.{next_row, next_used, next_past}
 use Rattle.accounts.proofs.listing.next.Goals as goal
@@ -7,8 +7,8 @@ use Rattle.accounts.proofs.listing.next.Goals as goal
 pub returns-then-end-part : goal.returns-then-end-part
 returns-then-end-part c =
     let a = c.args in
-    next_row a.array.now a.kept c.held_len-held.result a.line a.part.now a.from c.next_at-end.result a.buf.now _ a.at c.row_of.result c.judge_joined-answer.result
-    c.held_len-held.ensures c.next_at-end.ensures c.if-end-part.true c.judge_joined-answer.ensures (c.row_of.ensures a.array.now)
+    next_row a.array.now a.kept c.held_len-held.result a.line a.part.now a.from c.next_at-end.result a.buf.now _ a.at c.row_of.result c.from.result
+    c.held_len-held.ensures c.next_at-end.ensures c.if-end-part.true (c.from.ensures ∙ c.judge_joined-answer.ensures) (c.row_of.ensures a.array.now)
 
 pub returns-then-buf-at : goal.returns-then-buf-at
 returns-then-buf-at c =

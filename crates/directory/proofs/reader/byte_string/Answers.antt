@@ -1,20 +1,16 @@
 -- `directory::reader::byte_string` meets its contract. Assumes nothing.
-use Rattle.std.proofs.Common.{ℕ, List, sym, ◌∙◌}
-use Rattle.text.specs.Place.{refused}
-use Rattle.table.specs.Limits.{edition_two}
-use Rattle.profile.specs.Entries.{decoded}
-use Rattle.directory.specs.Entries.{directory_decoded}
-use Rattle.directory.proofs.ReaderLaws.{of_string, decoded-refused}
+use Rattle.std.proofs.Common.{◌∙◌}
+use Rattle.std.proofs.lemmas.Result.{err_from_is_err_and}
+use Rattle.directory.proofs.ReaderLaws.{decoded_string, decoded-refused}
 use Rattle.directory.proofs.reader.byte_string.Goals as goal
 
-pub returns-in-Ok : goal.returns-in-Ok
-unfolding directory_decoded
-returns-in-Ok c =
+pub returns-in_err-s : goal.returns-in_err-s
+returns-in_err-s c =
     let a = c.args in
-    c.byte_string.ensures ∙ sym (of_string (refused 24 a.buf.now) (λ (s : List ℕ). decoded edition_two a.choice s a.buf.now a.at) a.t.now c.in-Ok.s.now c.in-Ok.ensures.string)
+    let p = err_from_is_err_and c.from_residual.result c.from_residual.ensures.1 in
+    rw (p.1, p.2) (decoded-refused a.t.now _ c.in_err-s.ensures.refused a.buf.now a.at a.choice)
 
-pub returns-in-Err : goal.returns-in-Err
-returns-in-Err c =
+pub returns : goal.returns
+returns c =
     let a = c.args in
-    let r = c.in-Err.ensures.refused in
-    decoded-refused edition_two a.t.now c.in-Err.number r.not_accepted a.buf.now a.at a.choice r.number_is
+    c.byte_string.ensures ∙ decoded_string a.t.now c.in_ok-s.s.now c.in_ok-s.ensures.string a.buf.now a.at a.choice

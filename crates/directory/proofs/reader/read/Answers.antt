@@ -1,16 +1,13 @@
 -- `directory::reader::read` meets its contract. Assumes nothing.
-use Rattle.std.proofs.Common.{sym, ◌∙◌}
-use Rattle.table.specs.Limits.{edition_two}
-use Rattle.profile.specs.Entries.{refused_reading, reading}
-use Rattle.directory.specs.Entries.{directory_reading}
-use Rattle.directory.proofs.ReaderLaws.{of_string, read_refused}
+use Rattle.std.proofs.Common.{◌∙◌}
+use Rattle.std.proofs.lemmas.Result.{err_from_is_err_and}
+use Rattle.directory.proofs.ReaderLaws.{read_string, read_refused}
 use Rattle.directory.proofs.reader.read.Goals as goal
 
-pub returns-in-Ok : goal.returns-in-Ok
-unfolding directory_reading
-returns-in-Ok c = c.read.ensures ∙ sym (of_string (refused_reading 24) (reading edition_two) c.args.t.now c.in-Ok.s.now c.in-Ok.ensures.string)
+pub returns-in_err-s : goal.returns-in_err-s
+returns-in_err-s c =
+    let p = err_from_is_err_and c.from_residual.result c.from_residual.ensures.1 in
+    rw (p.1, p.2) (read_refused c.args.t.now _ c.in_err-s.ensures.refused)
 
-pub returns-in-Err : goal.returns-in-Err
-returns-in-Err c =
-    let r = c.in-Err.ensures.refused in
-    c.refused.ensures ∙ read_refused edition_two c.args.t.now c.in-Err.number r.not_accepted r.number_is
+pub returns : goal.returns
+returns c = c.read.ensures ∙ read_string c.args.t.now c.in_ok-s.s.now c.in_ok-s.ensures.string

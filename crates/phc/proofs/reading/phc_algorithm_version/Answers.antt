@@ -1,13 +1,19 @@
 -- `phc::reading::phc_algorithm_version` meets its contract. Assumes nothing.
-use mathlib.Core.Path.{◌≡◌, ◌∙◌, ap}
+use Rattle.std.proofs.Common.{◌∙◌, ap, ◌*◌}
 use Rattle.table.specs.Limits.{edition_two}
-use Rattle.profile.specs.Entries.{algorithm_version_of, algorithm_version}
-use Rattle.profile.specs.declared.fields.AlgorithmVersion.{AlgorithmVersion}
+use Rattle.profile.specs.Entries.{kind_number, AlgorithmVersion, algorithm_version_of, algorithm_version}
 use Rattle.phc.specs.Records.{code_of}
+use Rattle.phc.proofs.CodeLaws.{refused_code}
 use Rattle.phc.proofs.reading.phc_algorithm_version.Goals as goal
 
-pub returns : goal.returns
+pub returns-in-Ok : goal.returns-in-Ok
 unfolding algorithm_version
-returns c = let q : c.algorithm_version_of-v.result ≡ algorithm_version edition_two c.args.s.now =
-    c.algorithm_version_of-v.ensures ∙ ap (algorithm_version_of edition_two) c.read.ensures in
-    c.code_of.ensures ∙ ap (code_of c.algorithm_version_of-v.result.number) c.from.ensures ∙ ap (λ (a : AlgorithmVersion). code_of a.number a.version) q
+returns-in-Ok c =
+    let said = c.algorithm_version_of.ensures 0 (kind_number c.in-Ok.r.kind) ∙ ap (algorithm_version_of edition_two) c.in-Ok.ensures in
+    c.found.ensures ∙ ap (λ n. 100 * n) c.from.ensures ∙ ap (λ (a : AlgorithmVersion). code_of a.number a.version) said
+
+pub returns-in-Err : goal.returns-in-Err
+unfolding algorithm_version
+returns-in-Err c =
+    refused_code c.in-Err.refusal c.refused.ensures
+    ∙ ap (λ (a : AlgorithmVersion). code_of a.number a.version) (ap (algorithm_version_of edition_two) c.in-Err.ensures)

@@ -1,21 +1,29 @@
 -- `phc::writing::phc_write` meets its contract. Assumes nothing.
-use mathlib.Core.Path.{◌≡◌, ap, ◌∙◌}
-use native.Mathlib.Omega.{arith}
-use Rattle.text.specs.Place.{outcome}
+use Rattle.std.proofs.Common.{◌∙◌, ap, refl, arith}
 use Rattle.table.specs.Limits.{edition_two}
 use Rattle.profile.specs.Fields.{FieldSet, field_set}
 use Rattle.profile.specs.Entries.{writing}
 use Rattle.profile.specs.declared.fields.NumberFields.{NumberFields}
 use Rattle.phc.specs.Writing.{handed}
+use Rattle.phc.proofs.CodeLaws.{answered, refused_code}
 use Rattle.phc.proofs.SizeLaws.{written_small}
 use Rattle.phc.proofs.writing.phc_write.Goals as goal
 
-pub code_of-requires : goal.code_of-requires
-code_of-requires c z =
-    let fields : FieldSet = handed c.args.id c.args.has_version c.args.version c.args.m c.args.t c.args.p c.args.keyid.now c.args.«data».now c.args.salt.now c.args.output.now in
-    let said : outcome c.write-w.result.number c.write-w.result.count.0 c.write-w.new.buf ≡ writing edition_two fields c.args.buf.now 0 = let a = c.args in
-    c.write-w.ensures
-    ∙ ap (λ (n : NumberFields). writing edition_two (field_set n a.keyid.now a.«data».now a.salt.now a.output.now) a.buf.now 0)
-    c.handed_fields-fields.ensures in
-    let r = c.write-w.result in
-    omega (arith, written_small fields c.args.buf.now r.number r.count.0 _ said z)
+pub found-requires : goal.found-requires
+found-requires c =
+    let a = c.args in
+    let fields : FieldSet = handed a.id a.has_version a.version a.m a.t a.p a.keyid.now a.«data».now a.salt.now a.output.now in
+    let same = ap (λ (n : NumberFields). writing edition_two (field_set n a.keyid.now a.«data».now a.salt.now a.output.now) a.buf.now 0) c.handed_fields-fields.ensures in
+    omega (arith, written_small fields a.buf.now 0 c.in-Ok.count.0 _ (c.in-Ok.ensures ∙ same) refl)
+
+pub returns-in-Ok : goal.returns-in-Ok
+returns-in-Ok c =
+    let a = c.args in
+    let same = ap (λ (n : NumberFields). writing edition_two (field_set n a.keyid.now a.«data».now a.salt.now a.output.now) a.buf.now 0) c.handed_fields-fields.ensures in
+    answered 0 c.in-Ok.count.0 _ _ (c.in-Ok.ensures ∙ same) _ c.found.ensures
+
+pub returns-in-Err : goal.returns-in-Err
+returns-in-Err c =
+    let a = c.args in
+    let same = ap (λ (n : NumberFields). writing edition_two (field_set n a.keyid.now a.«data».now a.salt.now a.output.now) a.buf.now 0) c.handed_fields-fields.ensures in
+    answered _ 0 _ _ (c.in-Err.ensures ∙ same) _ (refused_code c.in-Err.refusal c.refused.ensures)
