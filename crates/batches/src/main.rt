@@ -7,6 +7,7 @@ use accounts::batch::{Batch, judge_batch};
 use readers::filled::{Filled, INPUT};
 use readers::lines::Lines;
 use readers::show::{show, show_number};
+use refusals::{Refusal, number_of};
 use rows::buffer::front;
 use rows::columns::{column, decimal};
 use rows::hex::decode_hex;
@@ -16,6 +17,9 @@ use text::units::Bytes;
 
 // No line has this number, so it shows where the slice was not written.
 const UNWRITTEN: u8 = 255;
+
+// What stands for a batch that is refused.
+const NOT_JUDGED: Batch = Batch { place: 0, count: 0 };
 
 // As many bytes as the hex digits of the largest input stand for, and so as many places as any text has lines.
 fn array() -> [u8; 131072] {
@@ -31,8 +35,9 @@ fn kept(slice: &[u8]) -> usize {
     slice.iter().filter(|b| **b == UNWRITTEN).count()
 }
 
-fn show_batch<W: Write>(out: &mut W, batch: Batch, slice: &[u8]) {
-    show_number(out, batch.number);
+fn show_batch<W: Write>(out: &mut W, answer: Result<Batch, Refusal>, slice: &[u8]) {
+    let batch = answer.unwrap_or(NOT_JUDGED);
+    show_number(out, number_of(&answer));
     show_number(out, batch.place);
     show_number(out, batch.count);
     show_numbers(out, front(slice, Bytes(batch.count)));
@@ -47,9 +52,9 @@ fn row<W: Write>(out: &mut W, line: &[u8]) {
     let slots = number(line, 3).min(answers.len());
     let slice = &mut answers[..slots];
     let text = front(&bytes, count);
-    let batch = judge_batch(text, number(line, 1), number(line, 2), slice);
+    let answer = judge_batch(text, number(line, 1), number(line, 2), slice);
     show(out, line);
-    show_batch(out, batch, slice);
+    show_batch(out, answer, slice);
     show(out, b"\n");
 }
 

@@ -11,11 +11,12 @@ use profile::fields::ByteString;
 use readers::filled::{Filled, INPUT};
 use readers::lines::Lines;
 use readers::show::{show, show_number};
+use refusals::number_of;
 use rows::buffer::{PLACE, front};
 use rows::fields::write_fields;
 use rows::show::{show_hex, show_reading, show_text};
 use std::io::Write;
-use text::units::Bytes;
+use text::units::{Bytes, Chars};
 
 // Room for the longest byte string, an output of 64 bytes, from PLACE on.
 const ROOM: usize = 81;
@@ -23,8 +24,8 @@ const ROOM: usize = 81;
 // The bytes of a byte string; none where it is absent or the text is refused. One that was put elsewhere shows as `2e`.
 fn show_bytes<W: Write>(out: &mut W, t: &[u8], choice: ByteString) {
     let mut buf = [b'.'; ROOM];
-    let r = byte_string(t, choice, &mut buf, PLACE);
-    show_hex(out, front(&buf[PLACE..], r.count));
+    let count = byte_string(t, choice, &mut buf, PLACE).unwrap_or(Bytes(0));
+    show_hex(out, front(&buf[PLACE..], count));
 }
 
 // The place from which a buffer lacks room for the last of so many bytes; its end where there are none.
@@ -38,9 +39,8 @@ fn one_too_far(count: Bytes) -> usize {
 // 17 for an accepted text with an output.
 fn number_without_room(t: &[u8]) -> u8 {
     let mut buf = [b'.'; ROOM];
-    let fits = byte_string(t, ByteString::Output, &mut buf, PLACE);
-    let r = byte_string(t, ByteString::Output, &mut buf, one_too_far(fits.count));
-    r.number
+    let count = byte_string(t, ByteString::Output, &mut buf, PLACE).unwrap_or(Bytes(0));
+    number_of(&byte_string(t, ByteString::Output, &mut buf, one_too_far(count)))
 }
 
 fn read_row<W: Write>(out: &mut W, t: &[u8]) {
@@ -59,10 +59,10 @@ fn read_row<W: Write>(out: &mut W, t: &[u8]) {
 
 fn write_row<W: Write>(out: &mut W, line: &[u8]) {
     let mut buf = [b'.'; 300];
-    let r = write_fields(line, &mut buf, write);
+    let answer = write_fields(line, &mut buf, write);
     show(out, line);
-    show_number(out, r.number);
-    show_text(out, &buf, PLACE, r.count);
+    show_number(out, number_of(&answer));
+    show_text(out, &buf, PLACE, answer.unwrap_or(Chars(0)));
 }
 
 fn row<W: Write>(out: &mut W, line: &[u8]) {

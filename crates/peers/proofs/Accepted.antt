@@ -3,13 +3,20 @@
 use Prim.Native.Nat.{ℕ, suc, ◌+◌, ◌-◌, ◌≤◌, ◌<◌}
 use mathlib.Core.Bool.{Bool, true, false, cond}
 use mathlib.Core.List.{List, [], ◌∷◌}
-use mathlib.Core.Path.{◌≡◌, refl, sym, ap, ◌∙◌}
+use mathlib.Core.Path.{◌≡◌, sym, ap, ◌∙◌}
 use native.Mathlib.Omega.{arith}
 use mir.Val.{bool_byte}
+use borrow.Author.Tests.{ne_eqb}
 use lib.Dec.{eqb}
 use lib.ListN.{length, take, drop}
 use Rattle.text.specs.Text.{line_feed, next_at}
-use Rattle.accounts.specs.Lines.{lines_left, line_answer}
+use Rattle.std.proofs.Common.{Result, Ok, Err}
+use Rattle.std.specs.Result.{is_ok}
+use Rattle.refusals.specs.Numbers.{number_of}
+use Rattle.refusals.specs.declared.Refusal.{Refusal}
+use Rattle.refusals.proofs.Numbers.{number_pos}
+use Rattle.profile.specs.declared.fields.Kind.{Kind}
+use Rattle.accounts.specs.Lines.{lines_left, line_answer, judge_answer}
 use Rattle.accounts.specs.Batches.{numbers_of}
 use Rattle.accounts.proofs.TextLines.{none_left, line_and_left}
 use Rattle.peers.specs.Judging.{accepted}
@@ -21,12 +28,11 @@ accepted-first n ns = go (eqb n 0)
     go true = omega arith
     go false = omega arith
 
-pub accepted_bool : (n : ℕ) → bool_byte (eqb n 0) ≡ accepted (n ∷ [])
-accepted_bool n = go (eqb n 0)
-  where
-    go : (b : Bool) → bool_byte b ≡ cond b 1 0
-    go true = refl
-    go false = refl
+pub accepted_ok : (r : Result Kind Refusal) (b : Bool) → b ≡ is_ok r → bool_byte b ≡ accepted ((judge_answer r).number ∷ [])
+accepted_ok (Ok k) b q = ap bool_byte q
+accepted_ok (Err e) b q =
+    let h : number_of e ≡ 0 → ⊥ = λ z. omega (arith, z, number_pos e) in
+    rw (ne_eqb (number_of e) 0 h) (ap bool_byte q)
 
 pub at_most_one : (n : ℕ) → accepted (n ∷ []) ≤ 1
 at_most_one n = go (eqb n 0)

@@ -16,8 +16,7 @@ pub extern "C" fn peer_judge_all(text: &[u8]) -> u64
     let mut count = 0;
     while place < text.len() {
         let end = next_at(text, place, b'\n');
-        let answer = judge(&text[place..end]);
-        count += u64::from(answer.number == 0);
+        count += u64::from(judge(&text[place..end]).is_ok());
         place = end + 1;
     }
     count

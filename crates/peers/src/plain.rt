@@ -1,14 +1,13 @@
 // A plain decoder of B64, character by character, with the contract of b64::decoder::decode: what the benchmark times that one beside.
 ghost use Rattle.std.specs.Prelude.{◌≡◌, true, not, ◌&&◌, ◌++◌, ◌+◌, ◌%◌, ◌≤◌, ◌<◌, eqb, length, drop};
-ghost use Rattle.text.specs.Place.{outcome, over};
+ghost use Rattle.text.specs.Place.{bytes_answered, over};
 ghost use Rattle.b64.specs.B64.{sextet, Sextets, low_bits_modulus, canonical, decode, decoding};
 ghost use Rattle.peers.specs.PlainSteps.{completed_byte, completed_bytes};
 
 use b64::alphabet::SEXTETS;
 use b64::lengths::decoded_len;
-use b64::numbers::NOT_CANONICAL;
-use text::numbers::NO_ROOM;
-use text::place::{Decoded, has_room};
+use refusals::Refusal;
+use text::place::has_room;
 use text::units::{Bytes, Chars};
 
 fn sextet_of(table: &[u8; 256], c: u8) -> u8
@@ -87,23 +86,17 @@ fn decode_all(table: &[u8; 256], text: &[u8], out: &mut [u8])
 }
 
 // The bytes of a text into `buf` from `at` on. 12: the text is not canonical; then 17: they don't fit.
-pub fn decode(text: &[u8], buf: &mut [u8], at: usize) -> Decoded
-    ensures { outcome result.number result.count.0 buf.new ≡ decoding text.now buf.old at }
+pub fn decode(text: &[u8], buf: &mut [u8], at: usize) -> Result<Bytes, Refusal>
+    ensures { bytes_answered result buf.new ≡ decoding text.now buf.old at }
 {
     let table = &SEXTETS;
-    if is_canonical_by(table, text) {
-        let count = decoded_len(Chars(text.len()));
-        if has_room(buf.len(), at, count.0) {
-            decode_all(table, text, &mut buf[at..]);
-            return Decoded { number: 0, count };
-        }
-        return Decoded {
-            number: NO_ROOM,
-            count: Bytes(0),
-        };
+    if !is_canonical_by(table, text) {
+        return Err(Refusal::WrongBytes);
     }
-    Decoded {
-        number: NOT_CANONICAL,
-        count: Bytes(0),
+    let count = decoded_len(Chars(text.len()));
+    if !has_room(buf.len(), at, count.0) {
+        return Err(Refusal::NoRoom);
     }
+    decode_all(table, text, &mut buf[at..]);
+    Ok(count)
 }

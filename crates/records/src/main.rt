@@ -9,37 +9,38 @@ use profile::writer::write;
 use readers::filled::{Filled, INPUT};
 use readers::lines::Lines;
 use readers::show::{show, show_number};
+use refusals::Refusal;
 use rows::buffer::front;
 use rows::show::{show_hex, show_reading, show_text};
 use std::io::Write;
-use text::place::Written;
+use text::units::{Bytes, Chars};
 
 // Room for the longest byte string, an output of 64 bytes.
 const LONGEST_PERMITTED: usize = 64;
 
-// The bytes of a byte string; none where it is absent or the string is refused.
+// A byte string of a string, from the start of a buffer on; none where it is absent or the string is refused.
+fn bytes_in<'a>(s: &[u8], choice: ByteString, buf: &'a mut [u8]) -> &'a [u8] {
+    let count = byte_string(s, choice, buf, 0).unwrap_or(Bytes(0));
+    front(buf, count)
+}
+
 fn show_bytes<W: Write>(out: &mut W, s: &[u8], choice: ByteString) {
     let mut buf = [0u8; LONGEST_PERMITTED];
-    let r = byte_string(s, choice, &mut buf, 0);
-    show_hex(out, front(&buf, r.count));
+    show_hex(out, bytes_in(s, choice, &mut buf));
 }
 
 // The fields of an accepted string, written back to the start of a buffer: the number fields as they were read, the byte strings decoded here.
-fn write_back(s: &[u8], fields: NumberFields, buf: &mut [u8]) -> Written {
+fn write_back(s: &[u8], fields: NumberFields, buf: &mut [u8]) -> Result<Chars, Refusal> {
     let mut keyid = [0u8; LONGEST_PERMITTED];
     let mut data = [0u8; LONGEST_PERMITTED];
     let mut salt = [0u8; LONGEST_PERMITTED];
     let mut output = [0u8; LONGEST_PERMITTED];
-    let k = byte_string(s, ByteString::Keyid, &mut keyid, 0);
-    let d = byte_string(s, ByteString::Data, &mut data, 0);
-    let t = byte_string(s, ByteString::Salt, &mut salt, 0);
-    let o = byte_string(s, ByteString::Output, &mut output, 0);
     write(
         fields,
-        front(&keyid, k.count),
-        front(&data, d.count),
-        front(&salt, t.count),
-        front(&output, o.count),
+        bytes_in(s, ByteString::Keyid, &mut keyid),
+        bytes_in(s, ByteString::Data, &mut data),
+        bytes_in(s, ByteString::Salt, &mut salt),
+        bytes_in(s, ByteString::Output, &mut output),
         buf,
         0,
     )
@@ -47,14 +48,14 @@ fn write_back(s: &[u8], fields: NumberFields, buf: &mut [u8]) -> Written {
 
 fn show_written<W: Write>(out: &mut W, s: &[u8], fields: NumberFields) {
     let mut buf = [0u8; 300];
-    let r = write_back(s, fields, &mut buf);
-    show_text(out, &buf, 0, r.count);
+    let count = write_back(s, fields, &mut buf).unwrap_or(Chars(0));
+    show_text(out, &buf, 0, count);
 }
 
 fn row<W: Write>(out: &mut W, s: &[u8]) {
-    let r = read(s);
+    let answer = read(s);
     show(out, s);
-    show_reading(out, r);
+    show_reading(out, answer);
     for choice in [
         ByteString::Keyid,
         ByteString::Data,
@@ -63,11 +64,10 @@ fn row<W: Write>(out: &mut W, s: &[u8]) {
     ] {
         show_bytes(out, s, choice);
     }
-    show_number(out, algorithm_version(s).version);
-    if r.number == 0 {
-        show_written(out, s, r.fields);
-    } else {
-        show(out, b"\t");
+    show_number(out, algorithm_version(s).unwrap_or(0));
+    match answer {
+        Ok(record) => show_written(out, s, record.fields),
+        Err(_) => show(out, b"\t"),
     }
     show(out, b"\n");
 }

@@ -7,6 +7,7 @@ use accounts::listing::{Listed, end, next};
 use accounts::row::write_header;
 use std::io;
 use std::io::{Error, Write};
+use text::units::Chars;
 
 // A listing that goes to a writer.
 #[derive(Drop)]
@@ -35,7 +36,7 @@ impl<const N: usize> Rows<N> {
             kept: 0,
             line: 1,
             out,
-            used: header.count.0.min(N),
+            used: header.unwrap_or(Chars(0)).0.min(N),
             open: true,
         }
     }
@@ -86,17 +87,17 @@ impl<const N: usize> Rows<N> {
                 &mut self.out,
                 self.used,
             ) {
-                Listed::Row { place, count, line } => {
+                Ok(Listed::Row { place, count, line }) => {
                     self.wait(count.0);
                     self.kept = 0;
                     self.line = line;
                     from = place;
                 }
-                Listed::UsedUp { kept } => {
+                Ok(Listed::UsedUp { kept }) => {
                     self.kept = kept;
                     return Ok(());
                 }
-                Listed::NoRoom => self.make_room(writer)?,
+                Err(_) => self.make_room(writer)?,
             }
         }
         Ok(())
@@ -133,14 +134,14 @@ impl<const N: usize> Rows<N> {
     // finish, where every write so far succeeded. A row that doesn't fit goes into the emptied buffer.
     fn end_rows<W: Write>(&mut self, writer: &mut W) -> io::Result<()> {
         let mut last = end(&self.array, self.kept, self.line, &mut self.out, self.used);
-        if last.number != 0 {
+        if last.is_err() {
             self.make_room(writer)?;
             last = end(&self.array, self.kept, self.line, &mut self.out, 0);
         }
-        if last.number != 0 {
+        let Ok(count) = last else {
             return Err(Error::other("a row doesn't fit the buffer"));
-        }
-        self.wait(last.count.0);
+        };
+        self.wait(count.0);
         self.flush(writer)
     }
 

@@ -7,23 +7,24 @@ use profile::writer::{write, write_short};
 use readers::filled::{Filled, INPUT};
 use readers::lines::Lines;
 use readers::show::{show, show_number};
+use refusals::{Refusal, number_of};
 use rows::buffer::PLACE;
 use rows::columns::{column, id};
 use rows::fields::write_fields;
 use rows::hex::hex_column;
 use rows::show::show_text;
 use std::io::Write;
-use text::place::Written;
 use text::scan::same_text;
+use text::units::Chars;
 
 // The short writer, on id, salt and output.
-fn write_short_defaults(line: &[u8], buf: &mut [u8]) -> Written {
+fn write_short_defaults(line: &[u8], buf: &mut [u8]) -> Result<Chars, Refusal> {
     let salt = hex_column(line, 7);
     let output = hex_column(line, 8);
     write_short(id(line), salt.bytes(), output.bytes(), buf, PLACE)
 }
 
-fn write_line(line: &[u8], buf: &mut [u8]) -> Written {
+fn write_line(line: &[u8], buf: &mut [u8]) -> Result<Chars, Refusal> {
     if same_text(column(line, 1), b"short") {
         write_short_defaults(line, buf)
     } else {
@@ -34,10 +35,10 @@ fn write_line(line: &[u8], buf: &mut [u8]) -> Written {
 // The line, the number and the string; no string where it is refused.
 fn row<W: Write>(out: &mut W, line: &[u8]) {
     let mut buf = [0u8; 300];
-    let r = write_line(line, &mut buf);
+    let answer = write_line(line, &mut buf);
     show(out, line);
-    show_number(out, r.number);
-    show_text(out, &buf, PLACE, r.count);
+    show_number(out, number_of(&answer));
+    show_text(out, &buf, PLACE, answer.unwrap_or(Chars(0)));
     show(out, b"\n");
 }
 

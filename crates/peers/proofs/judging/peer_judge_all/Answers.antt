@@ -1,7 +1,8 @@
 -- `peers::judging::peer_judge_all` meets its contract: those counted and those of the lines left are all. Assumes nothing.
 use native.Mathlib.Omega.{arith}
 use Rattle.text.proofs.Scanning.{find_from_le}
-use Rattle.peers.proofs.Accepted.{at_most_one, accepted_bool, accepted_step, accepted_end}
+use Rattle.accounts.specs.Lines.{judge_answer}
+use Rattle.peers.proofs.Accepted.{at_most_one, accepted_ok, accepted_step, accepted_end}
 use Rattle.peers.proofs.judging.peer_judge_all.Goals as goal
 
 pub slice_bounds-judge-end : goal.slice_bounds-judge-end
@@ -12,9 +13,10 @@ slice_bounds-judge-end c =
 pub loop-place-preserved : goal.loop-place-preserved
 loop-place-preserved c =
     let s = c.args.text.now in
-    let q = accepted_step s c.loop-place.place c.next_at-end.result c.judge-answer.result.number c.loop-place-test.true c.next_at-end.ensures (λ i. (c.judge-answer.ensures i).number) in
-    let e = accepted_bool c.judge-answer.result.number in (
-      omega (arith, at_most_one c.judge-answer.result.number, c.loop-place.invariant.0, c.next_at-end.ensures),
+    let n = (judge_answer c.judge.result).number in
+    let q = accepted_step s c.loop-place.place c.next_at-end.result n c.loop-place-test.true c.next_at-end.ensures (λ i. (c.judge.ensures i).number) in
+    let e = accepted_ok c.judge.result c.is_ok.result c.is_ok.ensures.value in (
+      omega (arith, at_most_one n, c.loop-place.invariant.0, c.next_at-end.ensures),
       omega (arith, c.loop-place.invariant.1, c.from-count.ensures),
     )
 
