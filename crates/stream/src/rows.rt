@@ -16,12 +16,11 @@ pub struct Rows<const N: usize> {
     pub array: [u8; MOST_KEPT],
     pub kept: usize,
     pub line: u64,
-    // The bytes of output that wait.
+    // The bytes of output that wait: all of them in a state made by hand that says more.
     pub out: [u8; N],
     pub used: usize,
     // Whether every write so far succeeded.
     pub open: bool,
-    pub ghost waits: { used ≤ length out },
 }
 
 impl<const N: usize> Rows<N> {
@@ -56,7 +55,7 @@ impl<const N: usize> Rows<N> {
     fn flush<W: Write>(&mut self, writer: &mut W) -> io::Result<()>
         ensures { OnOk result (Appends (W.contents writer.old) (W.contents writer.new) (take self.old.used self.old.out)) }
     {
-        writer.write_all(&self.out[..self.used])?;
+        writer.write_all(&self.out[..self.used.min(N)])?;
         self.used = 0;
         Ok(())
     }
@@ -70,7 +69,10 @@ impl<const N: usize> Rows<N> {
     }
 
     // `count` bytes more wait; never past the buffer.
-    fn wait(&mut self, count: usize) {
+    fn wait(&mut self, count: usize)
+        ensures within { self.new.used ≤ length self.new.out }
+        ensures open { self.new.«open» ≡ self.old.«open» }
+    {
         self.used = self.used.saturating_add(count).min(N);
     }
 
@@ -112,8 +114,10 @@ impl<const N: usize> Rows<N> {
         ensures closes { IsErr result → self.new.«open» ≡ false }
         ensures writes_no_more { self.old.«open» ≡ false → writer.new ≡ writer.old }
     {
+        self.wait(0);
         self.check_open()?;
         let taken = self.take_rows(writer, part);
+        self.wait(0);
         self.open = taken.is_ok();
         taken
     }
