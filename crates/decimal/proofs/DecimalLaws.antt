@@ -69,6 +69,18 @@ length_digits (suc k) n h =
     (λ (m : 10 ≤ n). omega (arith, length_step n m, length_digits k (n / 10) (omega (arith, pow-suc 10 (suc k)))))
     (below? n 10)
 
+-- as many as its power of ten says
+pub length-power : (k n : ℕ) → 10 ^ k ≤ n → n < 10 * 10 ^ k → length (digits n) ≡ suc k
+length-power zero n l h = length_small n (omega arith)
+length-power (suc k) n l h =
+    let p : 10 ^ suc k ≡ 10 ^ k * 10 = pow-suc 10 k in
+    let m : 10 ≤ n = omega (arith, pow-pos k) in
+    omega (arith, length_step n m, length-power k (n / 10) (omega arith) (omega arith))
+  where
+    pow-pos : (k : ℕ) → 1 ≤ 10 ^ k
+    pow-pos zero = omega arith
+    pow-pos (suc k) = omega (arith, pow-suc 10 k, pow-pos k)
+
 -- ---- they say the number
 
 value-append : (s t : List ℕ) (n : ℕ) → value_from n (s ++ t) ≡ value_from (value_from n s) t

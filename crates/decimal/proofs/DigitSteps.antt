@@ -1,7 +1,7 @@
 -- The steps of the walks over digits: reading them from the first on, writing them from the last on.
 -- Assumes nothing.
 use Prim.Native.Nat.{ℕ, ◌+◌, ◌-◌, ◌*◌, ◌/◌, ◌%◌, ◌≤◌, ◌<◌}
-use mathlib.Core.Path.{◌≡◌, refl, sym, ◌∙◌}
+use mathlib.Core.Path.{◌≡◌, refl, sym, ◌∙◌, ap}
 use mathlib.Core.Bool.{false}
 use mathlib.Core.List.{List, [], ◌∷◌, ◌++◌, append_assoc}
 use native.Mathlib.Omega.{arith}
@@ -11,6 +11,8 @@ use lib.ListN.{length, drop, get_or, set, drop_of_length-le}
 use lib.Seq.{drop-cons}
 use borrow.Author.Tests.{le-leb, lt-leb, ne_eqb}
 use Rattle.text.specs.Text.{all}
+use mathlib.Core.Logic.{⊎_elim}
+use Rattle.text.proofs.Tests.{below?}
 use Rattle.text.proofs.Lists.{drop-set-same}
 use Rattle.decimal.specs.Decimal.{is_digit, is_unsigned, value_from, digits}
 use Rattle.decimal.specs.DecimalSteps.{up_to}
@@ -66,14 +68,35 @@ is_value_lem limit n v h e = rw (← e, le-leb n limit h)
 -- ---- the text, digit by digit
 
 -- a digit is put before those that stand already
-pub put_digit : (buf : List ℕ) (i rest : ℕ) → 10 ≤ rest → i + 1 ≡ length (digits rest) → i < length buf
-    → digits (rest / 10) ++ drop (i - 1 + 1) (set buf i (48 + rest % 10)) ≡ digits rest ++ drop (i + 1) buf
-put_digit buf i rest h e l =
-    let k : i - 1 + 1 ≡ i = omega (arith, length_step rest h, length_pos (rest / 10)) in
-    rw (k, drop-set-same buf i (48 + rest % 10) l, digits_step rest h, append_assoc)
+put_digit : (buf : List ℕ) (i rest : ℕ) → 10 ≤ rest → i + 1 ≡ length (digits rest) → i < length buf
+    → digits (rest / 10) ++ drop i (set buf i (48 + rest % 10)) ≡ digits rest ++ drop (i + 1) buf
+put_digit buf i rest h e l = rw (drop-set-same buf i (48 + rest % 10) l, digits_step rest h, append_assoc)
 
 -- the first digit
-pub put_first : (buf : List ℕ) (i rest : ℕ) → rest < 10 → i + 1 ≡ length (digits rest) → i < length buf
-    → set buf 0 (48 + rest) ≡ digits rest ++ drop (i + 1) buf
-put_first [] i rest h e l = absurd (omega arith)
-put_first (c ∷ buf) i rest h e l = rw (e, length_small rest h, digits_small rest h)
+put_first : (buf : List ℕ) (rest : ℕ) → rest < 10 → 0 < length buf → set buf 0 (48 + rest) ≡ digits rest ++ drop 1 buf
+put_first [] rest h l = absurd (omega arith)
+put_first (c ∷ buf) rest h l = rw (digits_small rest h)
+
+-- the digits of what is left stand before the place i, whole is all of them and what stands after
+pub record Begun (buf : List ℕ) (i rest : ℕ) (whole : List ℕ) : Type 0 where
+  pub counted : i ≡ length (digits rest)
+  pub joined : digits rest ++ drop i buf ≡ whole
+
+-- one digit more
+pub put_next : (buf : List ℕ) (i rest : ℕ) (whole : List ℕ) → 0 < i → i ≤ length buf → Begun buf i rest whole
+    → (let after = set buf (i - 1) (48 + rest % 10) in (0 < i - 1 → Begun after (i - 1) (rest / 10) whole) × (i - 1 ≡ 0 → after ≡ whole))
+put_next buf i rest whole h l b =
+    ⊎_elim
+    (λ (m : rest < 10).
+    let z : i - 1 ≡ 0 = omega (arith, b.counted, length_small rest m) in
+    let o : i ≡ 1 = omega (arith, b.counted, length_small rest m) in
+    let r : rest % 10 ≡ rest = omega arith in
+    ((λ p. absurd (omega arith)), (λ _. rw (z, r) (put_first buf rest m (omega arith) ∙ rw o at b.joined))))
+    (λ (m : 10 ≤ rest).
+    let k = length_step rest m in
+    let e : i - 1 + 1 ≡ i = omega arith in
+    let c : i - 1 + 1 ≡ length (digits rest) = omega (arith, b.counted) in (
+      (λ p. record { counted = omega (arith, b.counted); joined = put_digit buf (i - 1) rest m c (omega arith) ∙ ap (λ n. digits rest ++ drop n buf) e ∙ b.joined }),
+      (λ z. absurd (omega (arith, b.counted, length_pos (rest / 10)))),
+    ))
+    (below? rest 10)

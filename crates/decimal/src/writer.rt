@@ -4,7 +4,6 @@ ghost use Rattle.text.specs.Place.{chars_answered, put};
 ghost use Rattle.decimal.specs.Decimal.{value, digits, decimal_text};
 ghost use Rattle.decimal.specs.Numerals.{decimal_writing};
 
-use crate::signs::complement;
 use refusals::Refusal;
 use text::place::has_room;
 use text::units::Chars;
@@ -13,24 +12,17 @@ use text::units::Chars;
 fn magnitude(value: i64) -> u64
     ensures { result ≡ nat_abs value }
 {
-    if value < 0 {
-        complement(value) as u64 + 1
-    } else {
-        value as u64
-    }
+    value.unsigned_abs()
 }
 
 // How many digits the shortest text of a number has.
 fn count_digits(value: u64) -> usize
     ensures { result ≡ length (digits value) }
 {
-    let mut k: usize = 1;
-    let mut rest = value;
-    while 10 <= rest {
-        rest = rest / 10;
-        k += 1;
+    if value < 10 {
+        return 1;
     }
-    k
+    value.ilog10() as usize + 1
 }
 
 // Puts the shortest text of a number at the start of a buffer, from its last digit on.
@@ -39,14 +31,11 @@ fn put_digits(value: u64, buf: &mut [u8]) -> usize
     ensures { (result ≡ length (digits value)) × (buf.new ≡ digits value ++ drop (length (digits value)) buf.old) }
 {
     let count = count_digits(value);
-    let mut i = count - 1;
     let mut rest = value;
-    while 10 <= rest {
-        buf[i] = 48 + (rest % 10) as u8;
-        rest = rest / 10;
-        i -= 1;
+    for i in (0..count).rev() {
+        buf[i] = b'0' + (rest % 10) as u8;
+        rest /= 10;
     }
-    buf[0] = 48 + rest as u8;
     count
 }
 

@@ -12,12 +12,15 @@ pub fn has_room(size: usize, at: usize, count: usize) -> bool
     at <= size && count <= size - at
 }
 
-// A text to the start of a buffer that has room for it.
+// A text to the start of a buffer that has room for it. A loop: the writers' tags have one to seven characters, and a call of copy_from_slice takes
+// 21 instructions more than their copy.
 fn copy_text(text: &[u8], out: &mut [u8])
     requires { length text.now ≤ length out.old }
     ensures { out.new ≡ over out.old 0 text.now }
 {
-    out[..text.len()].copy_from_slice(text);
+    for (i, byte) in text.iter().enumerate() {
+        out[i] = *byte;
+    }
 }
 
 // A text into `buf` from `at` on. 17: it doesn't fit.

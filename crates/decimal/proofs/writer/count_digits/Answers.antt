@@ -1,13 +1,12 @@
--- `decimal::writer::count_digits` meets its contract. The invariant: the digits counted and those of what is left are one more than the number has.
-use native.Mathlib.Omega.{arith}
-use Rattle.decimal.proofs.DecimalLaws.{length_digits, length_small, length_step, length_pos}
+-- `decimal::writer::count_digits` meets its contract: by the power of ten. Assumes nothing.
+use Rattle.std.proofs.Common.{sym, arith}
+use Rattle.decimal.proofs.DecimalLaws.{length_small, length-power}
 use Rattle.decimal.proofs.writer.count_digits.Goals as goal
 
-pub overflow_add-k : goal.overflow_add-k
-overflow_add-k c = omega (arith, length_pos c.loop-rest.rest, length_digits 19 c.args.value (omega arith))
-
-pub loop-rest-preserved : goal.loop-rest-preserved
-loop-rest-preserved c = omega (arith, length_step c.loop-rest.rest c.loop-rest-test.true)
+pub returns-then-value-lt10 : goal.returns-then-value-lt10
+returns-then-value-lt10 c = sym (length_small c.args.value c.if-value-lt10.true)
 
 pub returns : goal.returns
-returns c = omega (arith, length_small c.loop-rest.rest c.loop-rest-test.false)
+returns c =
+    let k = c.ilog10.result in
+    omega (arith, length-power k c.args.value c.ilog10.ensures.power_le c.ilog10.ensures.next_power_gt)
