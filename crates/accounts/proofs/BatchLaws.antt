@@ -1,7 +1,6 @@
 -- Batches: the place after some lines, whether the answers fit, and a line more.
 -- Assumes nothing.
 use Prim.Native.Nat.{ℕ, zero, suc, ◌+◌, ◌-◌, ◌≤◌, ◌<◌, min}
-use mathlib.Core.Bool.{true}
 use mathlib.Core.List.{List, [], ◌∷◌, ◌++◌, append_assoc}
 use mathlib.Core.Logic.{◌⊎◌, inl, inr, ⊎_elim}
 use mathlib.Core.Path.{◌≡◌, refl, sym, ap, ◌∙◌}
@@ -87,9 +86,6 @@ place_stopped s place left =
 
 -- ---- whether the answers fit
 
-pub fit_limit : (s : List ℕ) (from limit room : ℕ) → limit ≤ room → true ≡ leb (batch_count s from limit) room
-fit_limit s from limit room h = sym (le-leb (batch_count s from limit) room (omega arith))
-
 -- the slice has room for fewer lines than the limit: so the place after as many tells
 pub fit_lines : (s : List ℕ) (from limit room place : ℕ) → room < limit → place ≡ place_after s from room → leb (length s) place ≡ leb (batch_count s from limit) room
 fit_lines s from limit room place h e =
@@ -170,9 +166,6 @@ pub record Judging (s : List ℕ) (from limit : ℕ) (d a : List ℕ) (place cou
   pub answers_are : over a count (numbers_of (take left (lines_left s place))) ≡ over d 0 (numbers_of (take limit (lines_left s from)))
 
 module _ (s : List ℕ) (from limit : ℕ) (d : List ℕ) where
-  pub judging_begun : Judging s from limit d d from 0 limit
-  judging_begun = record { falls = omega arith; same_size = refl; place_is = refl; count_is = omega arith; answers_are = refl }
-
   module _ (a : List ℕ) (place count left : ℕ) (j : Judging s from limit d a place count left) where
     -- no line more is to be judged
     none-judged : (left ≤ 0) ⊎ (length s ≤ place) → take left (lines_left s place) ≡ []

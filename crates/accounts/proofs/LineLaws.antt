@@ -43,9 +43,6 @@ module _ (l : List ℕ) where
     tabbed : place < length l
     tabbed = (position-Some (λ x. eqb x tab) l place 0 e).0
 
-    pub string_inside : place + 1 ≤ length l
-    string_inside = omega (arith, tabbed)
-
     -- the part up to the tab is the name
     name_part : take place l ≡ name_of l
     name_part = ap (λ (n : ℕ). take n l) place_is ∙ sym (cut_before tab l)

@@ -33,9 +33,6 @@ module _ (t : List ℕ) where
   unfolding low_bits_zero
   ends_0 e = rw e (sym (mod1 (sextet (last t))))
 
-  pub ends_1 : length t % 4 ≡ 1 → Ends false
-  ends_1 e = rw e
-
   pub ends_2 : length t % 4 ≡ 2 → Ends (eqb (sextet (get_or t (length t - 1) 0) % 16) 0)
   unfolding low_bits_zero
   ends_2 e = rw (← last_at t, e)

@@ -17,7 +17,7 @@ use Rattle.text.proofs.Over.{over-nil, over_start, over_after, length_over}
 use Rattle.text.proofs.Starts.{starts_own}
 use Rattle.text.proofs.Runs.{run_go, run_stop, run_past, run_on, run_length}
 use Rattle.b64.specs.B64.{sextet, in_alphabet, canonical, decode, decoding, group_of}
-use Rattle.b64.specs.B64Steps.{bits_of, group_at, three, two, one}
+use Rattle.b64.specs.B64Steps.{group_at, three, two, one}
 use Rattle.b64.specs.Runs.{run_at, is_complete, decoded_of, RunGives}
 use Rattle.b64.specs.RunSteps.{Reached, Stopped}
 use Rattle.b64.specs.declared.decoder.Run.{Run}
@@ -61,10 +61,6 @@ module _ (s : List ℕ) (i : ℕ) where
   text_stop : 63 < sextet (get_or s i 0) → run_at s i ≡ []
   text_stop h = run_stop in_alphabet no_character s i (le-ltb (sextet (get_or s i 0)) 64 h)
 
-  -- where the text is not empty, its first character is of the alphabet
-  text-first : 1 ≤ length (run_at s i) → sextet (get_or s i 0) < 64
-  text-first h = elim (dec_lt (sextet (get_or s i 0)) 64) [ yes l ↦ l | no n ↦ absurd (omega (arith, ap length (text_stop (omega arith)))) ]
-
   text_inside : i ≤ length s → i + length (run_at s i) ≤ length s
   text_inside h = omega (arith, run_length in_alphabet (drop i s), length-drop i s)
 
@@ -73,13 +69,6 @@ module _ (s : List ℕ) (i : ℕ) where
 -- the sum tells whether all four are sextets
 group_sum : (a b c d : ℕ) → group_of a b c d < 16777216 → a + b + c + d ≤ 252
 group_sum a b c d h = elim (dec_lt 252 (a + b + c + d)) [ yes l ↦ absurd (omega (arith, group_past a b c d l)) | no n ↦ omega arith ]
-
--- the bits of a group of the alphabet are its number
-pub bits_at : (s : List ℕ) (i : ℕ) → group_at s i < 16777216
-    → bits_of (sextet (get_or s i 0)) (sextet (get_or s (i + 1) 0)) (sextet (get_or s (i + 2) 0)) (sextet (get_or s (i + 3) 0)) ≡ group_at s i
-bits_at s i h =
-    group_bits (sextet (get_or s i 0)) (sextet (get_or s (i + 1) 0)) (sextet (get_or s (i + 2) 0)) (sextet (get_or s (i + 3) 0))
-    (group_sum (sextet (get_or s i 0)) (sextet (get_or s (i + 1) 0)) (sextet (get_or s (i + 2) 0)) (sextet (get_or s (i + 3) 0)) h)
 
 -- four characters of the alphabet, their 24 bits, and a text after them
 module _ (w x y z n : ℕ) (t : List ℕ) (e : n ≡ group_of (sextet w) (sextet x) (sextet y) (sextet z)) (h : n < 16777216) where
@@ -185,19 +174,6 @@ module _ (s : List ℕ) (i n : ℕ) (e : n ≡ group_at s i) (h : n < 16777216) 
 
 pub stopped_end : (s : List ℕ) (at : ℕ) (out₀ : List ℕ) (from : ℕ) (out : List ℕ) (i o : ℕ) → Reached s at out₀ from out i o → length s < i + 4 → Stopped s out i o
 stopped_end s at out₀ from out i o r l = λ (k : 4 ≤ length (run_at s i)). absurd (omega (arith, text_inside s i r.inside))
-
-module _ (s out : List ℕ) (i o : ℕ) where
-  pub stopped_other : (n : ℕ) → n ≡ group_at s i → 16777215 < n → Stopped s out i o
-  stopped_other n e l = λ (k : 4 ≤ length (run_at s i)).
-      let a = text-first s i (omega arith) in
-      let la = ap length (text_go s i a (i + 1) refl) in
-      let b = text-first s (i + 1) (omega arith) in
-      let lb = ap length (text_go s (i + 1) b (i + 2) (omega arith)) in
-      let c = text-first s (i + 2) (omega arith) in
-      let lc = ap length (text_go s (i + 2) c (i + 3) (omega arith)) in
-      let d = text-first s (i + 3) (omega arith) in
-      let g = group_bits (sextet (get_or s i 0)) (sextet (get_or s (i + 1) 0)) (sextet (get_or s (i + 2) 0)) (sextet (get_or s (i + 3) 0)) (omega arith) in
-      absurd (omega arith)
 
 -- up to the bound for text and room a group stands there and fits; at the bound none does
 pub bound_inside : (s : List ℕ) (at : ℕ) (out₀ : List ℕ) (from : ℕ) (out : List ℕ) (i o : ℕ) → Reached s at out₀ from out i o → at ≤ length s → from ≤ length out₀

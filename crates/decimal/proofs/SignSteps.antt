@@ -6,64 +6,28 @@ use mathlib.Core.Bool.{Bool, true, false, not, cond, ◌&&◌, and-true, and-fal
 use mathlib.Core.Logic.{⊎_elim}
 use mathlib.Core.List.{List, [], ◌∷◌, ◌++◌}
 use native.Mathlib.Omega.{arith}
-use native.Mathlib.Nat.{zero-add}
 use native.Mathlib.Numerals.{one-add}
-use lib.Dec.{T, leb, eqb, leb-suc-suc}
-use lib.IntN.{ℤ, pos, negsuc, neg_ℤ, nat_abs, ◌-ℤ◌}
+use lib.Dec.{leb, eqb, leb-suc-suc}
+use lib.IntN.{ℤ, pos, negsuc, neg_ℤ, nat_abs}
 use lib.ListN.{length, get_or, drop, set}
-use lib.Signed.{mag, lt_z, le_z, non_neg, nat_abs-le}
+use lib.Signed.{mag, lt_z, le_z}
 use mir.Syntax.{w64}
-use mir.Val.{Fits, to_z, of_z}
+use mir.Val.{to_z, of_z}
 use mir.ValLaws.{to_z-of_z}
-use borrow.Author.Tests.{ltb-true, le-ltb, leb-true, le-leb, lt-leb, eq-eqb, ne_eqb}
+use borrow.Author.Tests.{ltb-true, leb-true, le-leb, lt-leb, eq-eqb, ne_eqb}
 use Rattle.text.specs.Place.{over}
 use Rattle.text.proofs.Tests.{either}
 use Rattle.decimal.specs.Decimal.{is_unsigned, value, digits, is_decimal, decimal_value, decimal_text}
 use Rattle.decimal.specs.Numerals.{Numeral, malformed, outside, number, between, numeral, least, signed}
-use Rattle.decimal.specs.DecimalSteps.{up_to, unsigned_reading, plain, minus, complement_of}
+use Rattle.decimal.specs.DecimalSteps.{up_to, unsigned_reading, plain, minus}
 use Rattle.decimal.specs.declared.error.DecimalError.{DecimalError}
 use Rattle.decimal.specs.declared.error.DecimalError.TheVariants.{Malformed, Outside}
 use Rattle.std.specs.Prelude.{Some, None, Result, Ok, Err}
 use Rattle.std.specs.Option.{ok_or}
 
--- ---- one operation at a time
-
-pub complement_is : (z : ℤ) → negsuc 0 -ℤ z ≡ complement_of z
-complement_is (pos zero) = refl
-complement_is (pos (suc n)) = rw zero-add
-complement_is (negsuc n) =
-    let e : suc n - 1 ≡ n = omega arith in
-    rw (le-ltb (suc n) 1 (omega arith), e)
-
-pub mag_complement : (z : ℤ) → mag (complement_of z) ≡ mag z
-mag_complement (pos n) = refl
-mag_complement (negsuc n) = refl
-
 -- a number is read back from its bits
 pub read_back : (z : ℤ) → mag z < 2 ^ 63 → to_z w64 (of_z w64 z) ≡ z
 read_back z h = to_z-of_z w64 z (record { sfits = h })
-
--- what a cast to u64 asks
-pub casts : (z : ℤ) → mag z < 2 ^ 63 → T (non_neg z) → T (non_neg (to_z w64 (of_z w64 z))) × Fits w64 (nat_abs (to_z w64 (of_z w64 z)))
-casts z h t = rw (read_back z h) (t, record { fits = omega (arith, nat_abs-le z h) })
-
--- the sign
-pub not_below : (z : ℤ) → lt_z z (pos 0) ≡ false → T (non_neg z)
-not_below (pos n) e = tt
-not_below (negsuc n) e = absurd (true≢false e)
-
-pub below : (z : ℤ) → lt_z z (pos 0) ≡ true → T (non_neg (complement_of z))
-below (pos n) e = absurd (omega (arith, ltb-true n 0 e))
-below (negsuc n) e = tt
-
--- the size
-pub size_below : (z : ℤ) → lt_z z (pos 0) ≡ true → nat_abs (complement_of z) + 1 ≡ nat_abs z
-size_below (pos n) e = absurd (omega (arith, ltb-true n 0 e))
-size_below (negsuc n) e = omega arith
-
-pub negated_is : (n : ℕ) → 0 < n → complement_of (pos (n - 1)) ≡ neg_ℤ (pos n)
-negated_is zero h = absurd (omega arith)
-negated_is (suc n) h = ap negsuc (omega arith)
 
 -- ---- the text of a number, by its sign and size as the machine finds them
 
@@ -167,12 +131,6 @@ signed-minus (Ok n) = go (eqb n 0)
     go : (b : Bool) → cond b (Err Malformed) (Ok (neg_ℤ (pos n))) ≡ signed (cond b malformed (number (neg_ℤ (pos n))))
     go true = refl
     go false = refl
-
-pub minus-zero : (n : ℕ) → n ≡ 0 → minus (Ok n) ≡ Err Malformed
-minus-zero n e = rw (eq-eqb n 0 e)
-
-pub minus_other : (n : ℕ) → (n ≡ 0 → ⊥) → minus (Ok n) ≡ Ok (neg_ℤ (pos n))
-minus_other n h = rw (ne_eqb n 0 h)
 
 -- how far below 0 the ranges go
 pub down_least : (n : ℕ) → le_z least (negsuc n) ≡ leb (suc n) 9223372036854775808

@@ -3,7 +3,7 @@
 use Prim.Native.Nat.{ℕ, zero, suc, ◌+◌, ◌≤◌, ◌<◌}
 use mathlib.Core.Bool.{Bool, true, false, true≢false}
 use mathlib.Core.List.{List, [], ◌∷◌, ◌++◌}
-use mathlib.Core.Logic.{◌⊎◌, inl, inr, ⊎_elim}
+use mathlib.Core.Logic.{◌⊎◌, inl, inr}
 use mathlib.Core.Option.{none, some}
 use mathlib.Core.Path.{◌≡◌, refl, sym, ◌∙◌, ap}
 use native.Mathlib.Omega.{arith}
@@ -112,13 +112,6 @@ which k h = go (eqb k 4) refl
     go : (b : Bool) → eqb k 4 ≡ b → (k ≡ 4) ⊎ (k ≡ 5)
     go true q = inl (eqb-true k 4 q)
     go false q = inr (omega (arith, eqb-false k 4 q, from_within 4 5 k h))
-
-pub other_id : (k : ℕ) → (k ≡ 4 → ⊥) → (k ≡ 5 → ⊥) → is_directory_id k ≡ false
-other_id k a b = go (is_directory_id k) refl
-  where
-    go : (x : Bool) → is_directory_id k ≡ x → x ≡ false
-    go true q = absurd (⊎_elim a b (which k q))
-    go false q = refl
 
 module _ (f : FieldSet) (h : is_directory_id f.numbers.id ≡ true) where
   pub name-length : length (here edition_two f).name ≡ 8

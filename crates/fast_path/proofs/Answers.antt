@@ -1,10 +1,10 @@
 -- The walk's fields as the entries' outcomes: what the reader gives, and all that a string carries.
 -- Assumes nothing.
-use Rattle.std.proofs.Common.{◌≡◌, ℕ, ◌-◌, ◌<◌, ◌≤◌, Bool, true, false, cond, eqb, List, [], ◌∷◌, ◌++◌, length, take, drop, sym, refl, ap, ◌∙◌, arith, length-append, ne_eqb, eqb-true}
+use Rattle.std.proofs.Common.{◌≡◌, ℕ, ◌-◌, ◌<◌, Bool, true, false, cond, eqb, List, [], ◌∷◌, ◌++◌, length, take, drop, sym, refl, ap, ◌∙◌, arith, length-append, ne_eqb, eqb-true}
 use mathlib.Core.Option.{Option, none, some}
 use lib.Seq.{take-append_seam}
-use Rattle.text.specs.Place.{Outcome, outcome, refused, over, put, put_after}
-use Rattle.text.proofs.Over.{over_start, length_over}
+use Rattle.text.specs.Place.{refused, over, put, put_after}
+use Rattle.text.proofs.Over.{over_start}
 use Rattle.text.proofs.Writing.{put_clear, put_refused}
 use Rattle.table.specs.Limits.{edition_two, longest_permitted}
 use Rattle.profile.specs.Fields.{FieldSet, write_bytes}
@@ -106,12 +106,6 @@ module _ (s out₀ out : List ℕ) (c : ContentsAnswer) (x : StoredAll (walked e
   pub found_reading : c.reading ≡ reading edition_two s
   found_reading = ap (λ (y : ContentsAnswer). y.reading) x.contents_are ∙ walked-reading s x.fields x.found
 
-  pub found_room : total c ≤ length out
-  found_room =
-      let b = counted-bytes x.fields out₀ out x.stored in
-      let t : total c ≡ total (contents_of x.fields) = ap total x.contents_are in
-      omega (arith, b.0, ap length x.stored ∙ length_over out₀ 0 (joined_bytes x.fields) (omega (arith, x.room)), x.room)
-
   found_contents : c ≡ counted (reading edition_two s) (fields_of edition_two s)
   found_contents =
       let f = walked-fields s x.fields x.found in
@@ -136,22 +130,3 @@ module _ (s out₀ out : List ℕ) (c : ContentsAnswer) (x : StoredAll (walked e
         w.answer ∙ rw (p, b) (ap (λ (y : ContentsAnswer). cond (eqb (put buf₀ at (joined_bytes (fields_of edition_two s))).number 0) y (refused_contents (put buf₀ at (joined_bytes (fields_of edition_two s))).number)) found_contents),
         w.buffer ∙ rw (p, b),
       )
-
--- ---- into the caller's buffer
-
-module _ (c : ContentsAnswer) (out buf₀ : List ℕ) (at n number count : ℕ) (left : List ℕ) (q : n ≡ total c)
-    (e : outcome number count left ≡ put buf₀ at (take (n - 0) (drop 0 out))) where
-  given : put buf₀ at (take (n - 0) (drop 0 out)) ≡ put buf₀ at (take (total c) out)
-  given = let z : n - 0 ≡ total c = omega arith in ap (λ (k : ℕ). put buf₀ at (take k out)) z
-
-  number_is : number ≡ (put buf₀ at (take (total c) out)).number
-  number_is = ap (λ (o : Outcome). o.number) (e ∙ given)
-
-  left_is : left ≡ (put buf₀ at (take (total c) out)).buffer
-  left_is = ap (λ (o : Outcome). o.buffer) (e ∙ given)
-
-  pub store_full : (number ≡ 0 → ⊥) → (r : ContentsAnswer) → r ≡ refused_contents number → StoredIs c out buf₀ at left r
-  store_full z r w = record { answer = rw (← number_is, ne_eqb number 0 z) w; buffer = left_is }
-
-  pub store_done : number ≡ 0 → StoredIs c out buf₀ at left c
-  store_done z = record { answer = rw (← number_is, z); buffer = left_is }

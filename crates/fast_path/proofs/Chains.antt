@@ -1,29 +1,17 @@
 -- The steps of the walk, one after the other: what each leaf finds makes up what the whole finds.
 -- Assumes nothing.
-use Rattle.std.proofs.Common.{◌≡◌, ℕ, suc, ◌+◌, ◌-◌, ◌<◌, true, false, not, List, [], ◌∷◌, length, get_or, take, drop, refl, arith, drop-drop, ne_eqb}
-use mathlib.Core.Option.{Option, none, some}
+use Rattle.std.proofs.Common.{◌≡◌, ℕ, suc, ◌+◌, ◌-◌, ◌<◌, true, false, List, [], ◌∷◌, length, get_or, take, drop, refl, arith, drop-drop, ne_eqb}
+use mathlib.Core.Option.{none, some}
 use Rattle.text.specs.Text.{text, find, next_at, starts_with, and_then}
-use Rattle.text.proofs.Tests.{is_true, is_false}
 use Rattle.text.proofs.Prefixes.{rest_at}
-use Rattle.table.specs.Limits.{Profile, in_range, id_of, profile_of, is_omitted}
+use Rattle.table.specs.Limits.{Profile, id_of, profile_of}
 use Rattle.table.specs.declared.limits.NumberRule.{NumberRule}
 use Rattle.table.specs.declared.limits.BytesRule.{BytesRule}
 use Rattle.table.specs.declared.version.Version.{Version}
 use Rattle.table.specs.declared.version.Version.TheVariants.{Absent, Number}
-use Rattle.profile.specs.declared.fields.NumberFields.{NumberFields}
-use Rattle.fast_path.specs.Walk.{Taken, taken, leading_number, written_number, omitted_number, number_in, written_bytes, bytes_in, allowed, version_in, numbers_in, head_in, with_strings, fields_after_id, walked}
+use Rattle.fast_path.specs.Walk.{taken, leading_number, written_number, omitted_number, number_in, written_bytes, bytes_in, allowed, version_in, numbers_in, head_in, fields_after_id, walked}
 
 -- ---- a number
-
-module _ (r : NumberRule) (o : Option (ℕ × List ℕ)) (n : ℕ) (t : List ℕ) (e : o ≡ some (n, t)) where
-  pub number_outside : in_range r n ≡ false → and_then o (written_number r) ≡ none
-  number_outside h = rw (e, h)
-
-  pub number_implied : in_range r n ≡ true → is_omitted r n ≡ true → and_then o (written_number r) ≡ none
-  number_implied h w = rw (e, h, w)
-
-  pub number_written : in_range r n ≡ true → is_omitted r n ≡ false → and_then o (written_number r) ≡ some (taken n 44 t)
-  number_written h w = rw (e, h, w)
 
 module _ (r : NumberRule) (name : List ℕ) (separator : ℕ) (s : List ℕ) (at : ℕ) where
   pub number_there : starts_with (separator ∷ name) (drop at s) ≡ true
@@ -73,17 +61,7 @@ module _ (r : Profile) (k : ℕ) (s : List ℕ) where
   unfolding head_in
   head_some v a t q = rw q
 
-  -- ---- the whole
-
-  pub after_unknown : not r.known ≡ true → fields_after_id r k s ≡ none
-  after_unknown z = rw (is_false r.known z)
-
-  module _ (z : not r.known ≡ false) where
-    pub after_none : head_in r k s ≡ none → fields_after_id r k s ≡ none
-    after_none q = rw (q, is_true r.known z)
-
-    pub after_some : (n : Taken NumberFields) → head_in r k s ≡ some n → fields_after_id r k s ≡ with_strings r n
-    after_some n q = rw (q, is_true r.known z)
+-- ---- the whole
 
 -- no `$` stands first
 pub walked_other : (e : List Profile) (s : List ℕ) → (0 < length s → get_or s 0 0 ≡ 36 → ⊥) → walked e s ≡ none

@@ -2,14 +2,14 @@
 -- Assumes nothing.
 use Rattle.std.proofs.Common.{◌≡◌, ℕ, ◌+◌, ◌-◌, ◌<◌, ◌≤◌, Bool, true, false, cond, not, ◌&&◌, leb, List, [], ◌∷◌, ◌++◌, length, drop, sym, refl, ap, ◌∙◌, append_assoc, arith, length-append, length-drop, drop-drop, leb-true}
 use mathlib.Core.Bool.{and-false}
-use mathlib.Core.Option.{Option, none, some}
+use mathlib.Core.Option.{none, some}
 use lib.Seq.{drop-length}
 use borrow.Author.Tests.{lt-leb}
 use Rattle.text.specs.Text.{all, empty, starts_with}
 use Rattle.text.specs.Place.{over}
 use Rattle.text.proofs.Tests.{from_within}
 use Rattle.text.proofs.Table.{always}
-use Rattle.text.proofs.Over.{over-nil, length_over, over_after}
+use Rattle.text.proofs.Over.{over-nil, over_after}
 use Rattle.text.proofs.Runs.{run_length}
 use Rattle.text.proofs.Lists.{length-empty, length_filled}
 use Rattle.b64.specs.B64.{in_alphabet, canonical, decode}
@@ -20,7 +20,7 @@ use Rattle.table.specs.declared.limits.BytesRule.{BytesRule}
 use Rattle.table.specs.declared.limits.BytesRule.TheVariants.{Sized, Forbidden}
 use Rattle.profile.specs.Fields.{FieldSet, field_set}
 use Rattle.profile.specs.declared.fields.NumberFields.{NumberFields}
-use Rattle.fast_path.specs.Walk.{Taken, taken, written_bytes, bytes_in, Pair, pair_in, keys_in, hashes_in, with_strings}
+use Rattle.fast_path.specs.Walk.{taken, written_bytes, bytes_in, pair_in, keys_in, hashes_in, with_strings}
 use Rattle.fast_path.specs.WalkSteps.{most, Stored, StoredTwo, contents_for, roomy, StoredAll}
 use Rattle.fast_path.specs.Claims.{most_bytes}
 use Rattle.fast_path.specs.Contents.{ContentsAnswer}
@@ -53,9 +53,6 @@ module _ (r : BytesRule) (s : List ℕ) (at : ℕ) (out₀ : List ℕ) (from : �
       go false e = refl
 
   module _ (out : List ℕ) (next end : ℕ) (k : Ran s at out₀ from out next end) where
-    pub run_ahead : from ≤ end
-    run_ahead = omega (arith, k.end_is)
-
     pub bytes-empty : end - from ≡ 0 → written_bytes r (drop at s) ≡ none
     bytes-empty z =
         let l : length (bytes_at s at) ≡ 0 = omega (arith, k.end_is) in
@@ -78,20 +75,6 @@ module _ (r : BytesRule) (s : List ℕ) (at : ℕ) (out₀ : List ℕ) (from : �
           end_is = k.end_is;
           stored = k.stored;
         }
-
--- what was room for more is room behind it
-pub stored_room : (o : Option (Taken (List ℕ))) (high : ℕ) (s out₀ : List ℕ) (from : ℕ) (out : List ℕ) (next end separator : ℕ)
-    → Stored o high s out₀ from out next end separator → (more : ℕ) → from + high + more ≤ length out₀ → (next ≤ length s) × (end + more ≤ length out)
-stored_room o high s out₀ from out next end separator x more h =
-    let z : length out ≡ length out₀ = ap length x.stored ∙ length_over out₀ from x.bytes (omega (arith, x.small)) in
-    (x.inside, omega (arith, x.end_is, x.small))
-
--- the buffer keeps its length
-pub stored_two_size : (o : Option (Taken Pair)) (high : ℕ) (s out₀ : List ℕ) (from : ℕ) (out : List ℕ) (next middle end : ℕ)
-    → StoredTwo o high s out₀ from out next middle end → from + high ≤ length out₀ → length out ≡ length out₀
-stored_two_size o high s out₀ from out next middle end x h =
-    ap length x.stored
-    ∙ length_over out₀ from (x.pair.first ++ x.pair.second) (omega (arith, x.small, length-append x.pair.first x.pair.second))
 
 -- none stands there
 pub bytes-none : (r : BytesRule) (name : List ℕ) (separator : ℕ) (s : List ℕ) (at : ℕ) (out : List ℕ) (from : ℕ) → at ≤ length s
@@ -136,22 +119,10 @@ module _ (a : BytesRule) (a-name : List ℕ) (b : BytesRule) (b-name : List ℕ)
 -- ---- all four
 
 module _ (r : Profile) (f : NumberFields) (separator : ℕ) (s : List ℕ) (at : ℕ) (out₀ : List ℕ) where
-  pub no_keys : keys_in r separator (drop at s) ≡ none → with_strings r (taken f separator (drop at s)) ≡ none
-  no_keys e = rw e
-
   module _ (out₁ : List ℕ) (next k d : ℕ) (x : StoredTwo (keys_in r separator (drop at s)) (most r.keyid + most r.«data») s out₀ 0 out₁ next k d) where
-    pub no_hashes : hashes_in r (drop next s) ≡ none → with_strings r (taken f separator (drop at s)) ≡ none
-    no_hashes e = rw (x.found, e)
-
     module _ (out₂ : List ℕ) (last e g : ℕ) (y : StoredTwo (hashes_in r (drop next s)) (most r.salt + most r.output) s out₁ d out₂ last e g) where
       found : FieldSet
       found = field_set f x.pair.first x.pair.second y.pair.first y.pair.second
-
-      pub ordered : (k ≤ d) × (d ≤ e) × (e ≤ g)
-      ordered = (omega (arith, x.end_is), omega (arith, y.middle_is), omega (arith, y.end_is))
-
-      pub text_left : (last ≡ length s → ⊥) → with_strings r (taken f separator (drop at s)) ≡ none
-      text_left h = rw (x.found, y.found, length_filled (drop last s) (λ z. h (omega (arith, length-drop last s, y.inside))))
 
       pub all_strings : roomy r ≤ length out₀ → last ≡ length s → (c : ContentsAnswer) → c ≡ contents_for f k (d - k) (e - d) (g - e)
           → StoredAll (with_strings r (taken f separator (drop at s))) out₀ out₂ c

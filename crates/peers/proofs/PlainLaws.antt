@@ -1,4 +1,4 @@
--- What the plain decoder needs: the last sextet of a text and how it may end, the bytes that a rest of a text completes, and what is stored.
+-- What the plain decoder needs: the last sextet of a text and how it may end, and the bytes that a rest of a text completes.
 -- Assumes nothing.
 use Prim.Native.Nat.{ℕ, ◌+◌, ◌%◌, ◌<◌, ◌≤◌}
 use mathlib.Core.Path.{◌≡◌, refl, sym, ap, ◌∙◌}
@@ -6,16 +6,15 @@ use mathlib.Core.Bool.{Bool, true, not, ◌&&◌}
 use mathlib.Core.List.{List, [], ◌∷◌, ◌++◌}
 use native.Mathlib.Omega.{arith}
 use native.Mathlib.Numerals.{add-one}
-use borrow.Author.Tests.{eq-eqb, ne_eqb}
 use lib.Dec.{eqb}
-use lib.ListN.{length, get_or, drop, set, take-append-drop}
-use lib.Seq.{drop-cons, set_split}
+use lib.ListN.{length, get_or, drop}
+use lib.Seq.{drop-cons}
 use Rattle.text.specs.Text.{all}
 use Rattle.text.specs.Place.{over}
-use Rattle.text.proofs.Groups.{Partly, partly_room, partly_step}
+use Rattle.text.proofs.Groups.{Partly, partly_step}
 use Rattle.b64.specs.B64.{sextet, in_alphabet, last, low_bits_modulus, low_bits_zero, canonical, decode}
 use Rattle.b64.proofs.B64Code.{canonical_in}
-use Rattle.peers.specs.PlainSteps.{completed_byte, completed_bytes}
+use Rattle.peers.specs.PlainSteps.{completed_bytes}
 
 -- ---- how a text may end
 
@@ -23,10 +22,6 @@ use Rattle.peers.specs.PlainSteps.{completed_byte, completed_bytes}
 abbrev pub last_sextet : ℕ → List ℕ → ℕ
 last_sextet prior [] = prior
 last_sextet prior (c ∷ t) = last_sextet (sextet c) t
-
-pub last_step : (t : List ℕ) (i prior own : ℕ) → i < length t → own ≡ sextet (get_or t i 0)
-    → last_sextet own (drop (i + 1) t) ≡ last_sextet prior (drop i t)
-last_step t i prior own h e = rw (drop-cons t i 0 h, e, add-one)
 
 last-sextet : (t : List ℕ) (c prior : ℕ) → last_sextet prior (c ∷ t) ≡ sextet (last (c ∷ t))
 last-sextet [] c prior = refl
@@ -65,24 +60,7 @@ module _ (t d₀ d : List ℕ) (i o prior own : ℕ) (h : i < length t) (e : own
   next : Partly (decode t) d₀ d o (completed_bytes (i % 4) prior own ++ completed_from ((i + 1) % 4) own (drop (i + 1) t))
   next = rw split at p
 
-  pub next_room : o + length (completed_bytes (i % 4) prior own) ≤ length d
-  next_room = partly_room (decode t) d₀ d o (completed_bytes (i % 4) prior own) (completed_from ((i + 1) % 4) own (drop (i + 1) t)) next fit
-
   pub next_step : (o' : ℕ) (d' : List ℕ) → o' ≡ o + length (completed_bytes (i % 4) prior own) → d' ≡ over d o (completed_bytes (i % 4) prior own)
       → Partly (decode t) d₀ d' o' (completed_from ((i + 1) % 4) own (drop (i + 1) t))
   next_step o' d' eo ed =
       rw (eo, ed) (partly_step (decode t) d₀ d o (completed_bytes (i % 4) prior own) (completed_from ((i + 1) % 4) own (drop (i + 1) t)) next fit)
-
--- what is stored, where a character completes nothing and where it completes a byte
-module _ (place prior own : ℕ) (d : List ℕ) (o : ℕ) where
-  abbrev Stored : ℕ → List ℕ → Type 0
-  Stored r d' = (r ≡ o + length (completed_bytes place prior own)) × (d' ≡ over d o (completed_bytes place prior own))
-
-  pub stored_none : place ≡ 0 → Stored o d
-  stored_none e = let z : o + 0 ≡ o = omega arith in rw (eq-eqb place 0 e, z) (refl, sym (take-append-drop o d))
-
-  pub stored_room : (place ≡ 0 → ⊥) → o + length (completed_bytes place prior own) ≤ length d → o < length d
-  stored_room n h = omega (arith, rw (ne_eqb place 0 n) at h)
-
-  pub stored_one : (place ≡ 0 → ⊥) → o < length d → (v : ℕ) → v ≡ completed_byte place prior own → Stored (o + 1) (set d o v)
-  stored_one n h v e = rw (ne_eqb place 0 n, ← e) (refl, rw (add-one) (set_split d o v h))

@@ -1,14 +1,14 @@
 -- One reading of a string that the grammar accepts: its optional texts, its rows and its fields, by the places of its pieces.
 -- Assumes nothing.
-use Prim.Native.Nat.{ℕ, ◌≤◌}
+use Prim.Native.Nat.{ℕ}
 use mathlib.Core.Bool.{Bool, true, false, not, cond}
 use mathlib.Core.List.{List, []}
 use mathlib.Core.Option.{none, some}
 use mathlib.Core.Path.{◌≡◌, refl, sym, ◌∙◌, ap}
 use native.Mathlib.Omega.{arith}
-use lib.Dec.{eqb, leb}
+use lib.Dec.{eqb}
 use lib.ListN.{length}
-use borrow.Author.Tests.{leb-true, eqb-true, eqb-false, ne_eqb}
+use borrow.Author.Tests.{eqb-true, eqb-false, ne_eqb}
 use Rattle.text.specs.Text.{within, all, empty, violates}
 use Rattle.text.specs.Place.{refused, put_after}
 use Rattle.text.specs.Rows.{first_number}
@@ -17,7 +17,7 @@ use Rattle.refusals.specs.declared.Refusal.{Refusal}
 use Rattle.std.specs.Prelude.{Result, Ok, Err}
 use Rattle.text.proofs.Tests.{both, is_true}
 use Rattle.text.proofs.Writing.{put_refused}
-use Rattle.text.proofs.Rows.{Clear, clear, rows_stop, rows_pass, first_passes}
+use Rattle.text.proofs.Rows.{Clear, clear, rows_stop, rows_pass}
 use Rattle.b64.specs.B64.{sextet, low_bits_zero, canonical, decode, decode_number, decoding}
 use Rattle.grammar.specs.Limits.{longest_output}
 use Rattle.grammar.specs.Pieces.{OptionalText, pieces, piece_in}
@@ -54,15 +54,7 @@ pub answer_rows : (e : List Profile) (s : List ℕ) → grammar_number s ≡ 0 �
 unfolding reader_number
 answer_rows e s z = rows_pass (grammar_rows s) (profile_rows e (pieces s)) (accepted_rows s z)
 
--- the grammar's number, and the number of a string that the grammar refuses
-pub grammar_most : (s : List ℕ) → grammar_number s ≤ 7
-unfolding grammar_number
-grammar_most s = go (eqb (grammar_number s) 0) refl
-  where
-    go : (b : Bool) → eqb (grammar_number s) 0 ≡ b → grammar_number s ≤ 7
-    go true e = omega (arith, eqb-true (grammar_number s) 0 e)
-    go false e = leb-true (grammar_number s) 7 (first_passes (λ (n : ℕ). leb n 7) (grammar_rows s) refl (eqb-false (grammar_number s) 0 e))
-
+-- the number of a string that the grammar refuses
 pub answer_refused : (e : List Profile) (s : List ℕ) (n : ℕ) → grammar_number s ≡ n → (n ≡ 0 → ⊥) → reader_number e s ≡ n
 unfolding reader_number grammar_number
 answer_refused e s n q z = rows_stop (grammar_rows s) (profile_rows e (pieces s)) n (sym q) z

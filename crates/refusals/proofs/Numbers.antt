@@ -1,9 +1,9 @@
 -- No refusal has the number of acceptance.
 -- Assumes nothing.
-use Rattle.std.proofs.Common.{◌≡◌, ◌<◌, arith, Result, Err}
+use Rattle.std.proofs.Common.{◌<◌, arith}
 use Rattle.refusals.specs.declared.Refusal.{Refusal}
 use Rattle.refusals.specs.declared.Refusal.TheVariants.{BadString, BadId, BadVersion, BadParameters, BadSalt, BadOutput, TooManyPieces, UnknownId, VersionNotPermitted, WrongNames, WrongNumber, WrongBytes, WrittenOut, WrongSalt, WrongOutput, OutputWithoutSalt, NoRoom, LineTooLong, BadName, NoSpelling}
-use Rattle.refusals.specs.Numbers.{number_of, number}
+use Rattle.refusals.specs.Numbers.{number_of}
 
 pub number_pos : (r : Refusal) → 0 < number_of r
 number_pos BadString = omega arith
@@ -26,6 +26,3 @@ number_pos NoRoom = omega arith
 number_pos LineTooLong = omega arith
 number_pos BadName = omega arith
 number_pos NoSpelling = omega arith
-
-pub number_ok : {A : Type 0} (r : Result A Refusal) (e : Refusal) → r ≡ Err e → number r ≡ 0 → ⊥
-number_ok r e q z = let p : number_of e ≡ 0 = rw q at z in omega (arith, number_pos e)

@@ -1,7 +1,6 @@
 pub mod Tests
 pub mod Rows
 pub mod Table
-pub mod ClassLaws
 pub mod Scanning
 pub mod Lists
 pub mod Options
@@ -16,5 +15,4 @@ pub mod Groups
 pub mod Splitting
 pub mod Joining
 pub mod Library
-pub mod Sums
 pub mod LittleEndian

@@ -10,8 +10,7 @@ use lib.Dec.{leb}
 use lib.ListN.{length, take, drop, length-append, length-take}
 use lib.Seq.{length-take-le, take_all, take-append-add, take-add, drop_at, drop-drop}
 use borrow.Author.Tests.{leb-true, leb-false}
-use Rattle.text.specs.Place.{over, outcome, put}
-use Rattle.text.proofs.Writing.{put-fits}
+use Rattle.text.specs.Place.{over}
 
 -- no more than there are
 pub take_min : {A : Type 0} (d : List A) (n : ℕ) → take (min n (length d)) d ≡ take n d
@@ -50,18 +49,7 @@ over_prefix d t held h =
     let z : held + length t ≡ 0 + length (take held d ++ t) = omega (arith, length-append (take held d) t) in
     ap (λ (m : ℕ). take held d ++ (t ++ drop m d)) z ∙ sym (append_assoc (take held d) t (drop (0 + length (take held d ++ t)) d))
 
--- a buffer of n bytes keeps as many bytes more, after the first `held`, as there is room for
-pub kept_more : (n : ℕ) (d d₁ more : List ℕ) (held count number c : ℕ) → length d ≡ n → held ≤ n → count ≡ min (n - held) (length more)
-    → outcome number c d₁ ≡ put d held (take (count - 0) (drop 0 more))
-    → (held + count ≡ held + length (take (n - held) more)) × (d₁ ≡ over d held (take (n - held) more))
-kept_more n d d₁ more held count number c l h q e =
-    let z : count - 0 ≡ min (n - held) (length more) = omega arith in
-    let t : take (count - 0) (drop 0 more) ≡ take (n - held) more = ap (λ (k : ℕ). take k more) z ∙ take_min more (n - held) in
-    let k : length (take (n - held) more) ≡ min (n - held) (length more) = length-take (n - held) more in
-    let w = put-fits d held (take (n - held) more) number c d₁ (omega arith) (e ∙ ap (put d held) t) in
-    (omega arith, w.left_is)
-
--- they are the first n of the bytes kept and those that came
+-- of more, a buffer of n bytes keeps what there is room for after the first `held`: they are the first n of the bytes kept and those that came
 module _ (n : ℕ) (d s : List ℕ) (held : ℕ) (l : held ≤ n) (h : held ≤ length d) where
   pub kept_count : held + length (take (n - held) s) ≡ length (take n (take held d ++ s))
   kept_count =

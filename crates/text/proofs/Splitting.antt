@@ -1,15 +1,14 @@
 -- Splitting at a separator, by places: the parts from a place on, and what stands before and after the first separator.
 -- Assumes nothing.
-use Prim.Native.Nat.{ℕ, zero, suc, ◌+◌, ◌-◌, ◌≤◌, ◌<◌}
+use Prim.Native.Nat.{ℕ, suc, ◌+◌, ◌-◌, ◌≤◌, ◌<◌}
 use mathlib.Core.Path.{◌≡◌, refl, sym, ap, ◌∙◌}
 use mathlib.Core.List.{List, [], ◌∷◌}
 use mathlib.Core.Bool.{Bool, true, false, not, cond, ◌||◌}
 use native.Mathlib.Omega.{arith}
 use native.Mathlib.Nat.{suc-add, add_assoc, add-sub_cancel_left}
-use native.Mathlib.Numerals.{sub-one}
 use borrow.Author.Tests.{le-leb, lt-leb, leb-true, leb-false, lt-ltb, le-ltb, ltb-true, ltb-false}
 use lib.Dec.{leb, ltb, eqb, leb-zero, leb-suc-suc}
-use lib.ListN.{length, take, drop, get_or, length-drop}
+use lib.ListN.{length, take, drop, length-drop}
 use lib.Seq.{drop-drop}
 use Rattle.text.specs.Text.{has, find, empty, put_byte, split, parts, cut_byte, cut, parts_from, next_at}
 use Rattle.text.proofs.Writing.{leb-sub}
@@ -74,11 +73,6 @@ some_from d s at = go (leb at (length s)) refl
     go : (b : Bool) → leb at (length s) ≡ b → not (empty (parts_from d s at)) ≡ b
     go true e = rw (from_step d s at (leb-true at (length s) e))
     go false e = rw (from_past d s at (leb-false at (length s) e))
-
--- an index of a list with a first element
-pub get_d_pred : (p : List ℕ) (ps : List (List ℕ)) (k : ℕ) → 0 < k → get_or (p ∷ ps) k [] ≡ get_or ps (k - 1) []
-get_d_pred p ps zero h = absurd (omega arith)
-get_d_pred p ps (suc k) h = rw sub-one
 
 -- ---- before and after the first separator
 

@@ -1,18 +1,17 @@
--- A text that begins with another: what it is, and the test of it place by place; and how a text begins.
+-- A text that begins with another: what it is, its length, and a separator before it; and how a text begins.
 -- Assumes nothing.
 use Prim.Native.Nat.{ℕ, suc, ◌+◌, ◌≤◌, ◌<◌}
-use mathlib.Core.Bool.{Bool, true, false, ◌&&◌, ◌||◌, and_assoc, and-false, and-true as and_one, true≢false, false≢true, cond, not}
+use mathlib.Core.Bool.{Bool, true, false, ◌&&◌, ◌||◌, and-false, false≢true, cond, not}
 use mathlib.Core.List.{List, [], ◌∷◌, ◌++◌, append_assoc}
 use mathlib.Core.Path.{◌≡◌, refl, ap, ap₂, sym, ◌∙◌}
-use native.Mathlib.Nat.{add_assoc}
 use native.Mathlib.Numerals.{add-one}
 use native.Mathlib.Omega.{arith}
 use lib.Dec.{eqb}
-use lib.ListN.{length, take, drop, get_or, drop_of_length-le}
+use lib.ListN.{length, drop, get_or}
 use lib.Seq.{drop-cons, drop_at}
-use borrow.Author.Tests.{eqb-true, eq-eqb, ne_eqb}
+use borrow.Author.Tests.{eqb-true, eq-eqb}
 use mathlib.Core.Option.{Option}
-use Rattle.text.specs.Text.{has, same, find, starts_with}
+use Rattle.text.specs.Text.{has, find, starts_with}
 use Rattle.text.proofs.Tests.{both, and-true, neither, is_false}
 
 -- ---- a text that begins with another
@@ -25,12 +24,6 @@ starts_is (c ∷ l) (d ∷ t) e = let p = both (eqb d c) (starts_with l t) e in 
 pub starts_own : (l t : List ℕ) → starts_with l (l ++ t) ≡ true
 starts_own [] t = refl
 starts_own (c ∷ l) t = and-true (eq-eqb c c refl) (starts_own l t)
-
--- as many bytes of it are the same
-pub starts_take : (l t : List ℕ) → starts_with l t ≡ same (take (length l) t) l
-starts_take [] t = refl
-starts_take (c ∷ l) [] = refl
-starts_take (c ∷ l) (d ∷ t) = ap (λ (b : Bool). eqb d c && b) (starts_take l t)
 
 -- no text begins with one that has a byte which it has not
 pub starts_without : (d : ℕ) (l t : List ℕ) → has d l ≡ true → has d t ≡ false → starts_with l t ≡ false
@@ -45,30 +38,7 @@ starts_without d (c ∷ l) (b ∷ t) h n = go (eqb c d) refl h (starts_without d
     go true e h k = rw (eqb-true c d e, q.0)
     go false e h k = rw (k h q.1) (and-false (eqb b c))
 
--- ---- place by place
-
-pub starts_short : (l t : List ℕ) → length t < length l → starts_with l t ≡ false
-starts_short [] t h = absurd (omega arith)
-starts_short (c ∷ l) [] h = refl
-starts_short (c ∷ l) (d ∷ t) h = rw (starts_short l t (omega arith)) (and-false (eqb d c))
-
--- three bytes, each tested
-pub starts_three : (x y z : ℕ) (t : List ℕ) (j : ℕ) → j + 3 ≤ length t
-    → ((eqb (get_or t j 0) x && eqb (get_or t (j + 1) 0) y) && eqb (get_or t (j + 2) 0) z) ≡ starts_with (x ∷ y ∷ z ∷ []) (drop j t)
-starts_three x y z t j h =
-    let e₁ : drop j t ≡ get_or t j 0 ∷ drop (j + 1) t = rw add-one (drop-cons t j 0 (omega arith)) in
-    let e₂ : drop (j + 1) t ≡ get_or t (j + 1) 0 ∷ drop (j + 2) t = rw (← add-one (j + 1), add_assoc) at (drop-cons t (j + 1) 0 (omega arith)) in
-    let e₃ : drop (j + 2) t ≡ get_or t (j + 2) 0 ∷ drop (suc (j + 2)) t = drop-cons t (j + 2) 0 (omega arith) in
-    rw (e₁, e₂, e₃) (simp (and_assoc, and_one))
-
--- what doesn't begin with a byte doesn't begin with more
-pub starts_first : (c : ℕ) (l t : List ℕ) → starts_with (c ∷ []) t ≡ false → starts_with (c ∷ l) t ≡ false
-starts_first c l [] e = refl
-starts_first c l (d ∷ t) e = go (eqb d c) e
-  where
-    go : (b : Bool) → (b && true) ≡ false → (b && starts_with l t) ≡ false
-    go true q = absurd (true≢false q)
-    go false q = refl
+-- ---- its length, and a separator before it
 
 -- what begins with a text is at least as long
 pub starts_text : (l t : List ℕ) → starts_with l t ≡ true → length l ≤ length t
@@ -76,22 +46,8 @@ starts_text [] t e = omega arith
 starts_text (c ∷ l) [] e = let z : ◌≡◌ {A = Bool} false true = e in let n : ◌≡◌ {A = ℕ} 0 1 = cc in absurd (omega arith)
 starts_text (c ∷ l) (d ∷ t) e = let q = starts_text l t (both (eqb d c) (starts_with l t) e).1 in omega arith
 
--- one byte more of both
-module _ (l t : List ℕ) (i j : ℕ) (h : i < length l) (k : j < length t) where
-  pub starts_same : get_or t j 0 ≡ get_or l i 0 → starts_with (drop i l) (drop j t) ≡ starts_with (drop (i + 1) l) (drop (j + 1) t)
-  starts_same e = rw (drop-cons l i 0 h, drop-cons t j 0 k, add-one i, add-one j, eq-eqb (get_or t j 0) (get_or l i 0) e)
-
-  pub starts_other : (get_or t j 0 ≡ get_or l i 0 → ⊥) → starts_with (drop i l) (drop j t) ≡ false
-  starts_other e = rw (drop-cons l i 0 h, drop-cons t j 0 k, ne_eqb (get_or t j 0) (get_or l i 0) e)
-
 -- a separator and a text after it
 module _ (separator : ℕ) (l t : List ℕ) (j : ℕ) where
-  pub separator_past : length t ≤ j → false ≡ starts_with (separator ∷ l) (drop j t)
-  separator_past h = rw (drop_of_length-le)
-
-  pub separator_other : j < length t → (get_or t j 0 ≡ separator → ⊥) → false ≡ starts_with (separator ∷ l) (drop j t)
-  separator_other k e = rw (drop-cons t j 0 k, ne_eqb (get_or t j 0) separator e)
-
   pub separator_same : j < length t → get_or t j 0 ≡ separator → (b : Bool) → b ≡ starts_with l (drop (j + 1) t) → b ≡ starts_with (separator ∷ l) (drop j t)
   separator_same k e b q = rw (drop-cons t j 0 k, eq-eqb (get_or t j 0) separator e, ← add-one j) q
 

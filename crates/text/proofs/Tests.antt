@@ -1,11 +1,11 @@
 -- What a Bool test that came out true or false tells of its parts.
 -- Assumes nothing.
-use Prim.Native.Nat.{ℕ, ◌*◌, ◌/◌, ◌≤◌, ◌<◌}
+use Prim.Native.Nat.{ℕ, ◌≤◌, ◌<◌}
 use mathlib.Core.Bool.{Bool, true, false, not, ◌&&◌, ◌||◌, true≢false, false≢true}
-use mathlib.Core.Path.{◌≡◌, refl, sym}
+use mathlib.Core.Path.{◌≡◌, refl}
 use mathlib.Core.Logic.{◌⊎◌, inl, inr}
-use lib.Dec.{leb, ltb}
-use borrow.Author.Tests.{leb-true, le-leb, ltb-true, ltb-false, lt-ltb, le-ltb}
+use lib.Dec.{leb}
+use borrow.Author.Tests.{leb-true, le-leb}
 use native.Mathlib.Decide.{dec_lt}
 use native.Mathlib.Omega.{arith}
 use Rattle.text.specs.Text.{within}
@@ -51,11 +51,3 @@ either false = inr refl
 
 pub below? : (n m : ℕ) → (n < m) ⊎ (m ≤ n)
 below? n m = elim (dec_lt n m) [ yes h ↦ inl h | no h ↦ inr (omega arith) ]
-
--- the quotient is below p where m is below 8p, and no product can wrap
-pub eighth_below : (m p : ℕ) → ltb (m / 8) p ≡ ltb m (8 * p)
-eighth_below m p = go (ltb (m / 8) p) refl
-  where
-    go : (b : Bool) → ltb (m / 8) p ≡ b → b ≡ ltb m (8 * p)
-    go true h = let l : m / 8 < p = ltb-true (m / 8) p h in sym (lt-ltb m (8 * p) (omega arith))
-    go false h = let l : p ≤ m / 8 = ltb-false (m / 8) p h in sym (le-ltb m (8 * p) (omega arith))

@@ -2,7 +2,7 @@
 -- Assumes nothing.
 use Prim.Native.Nat.{ℕ, ◌+◌, ◌-◌, ◌^◌, ◌≤◌, ◌<◌}
 use mathlib.Core.List.{List, [], ◌∷◌, ◌++◌}
-use mathlib.Core.Path.{◌≡◌, refl, sym, ◌∙◌, ap}
+use mathlib.Core.Path.{◌≡◌, ◌∙◌, ap}
 use native.Mathlib.Omega.{arith}
 use lib.ListN.{length, take, drop, length-append, length-drop}
 use mir.Syntax.{w64}
@@ -13,12 +13,8 @@ use Rattle.std.specs.Result.{IsOk}
 use Rattle.refusals.specs.declared.Refusal.{Refusal}
 use Rattle.text.specs.Place.{outcome, answered, over, put, Wrote}
 use Rattle.text.proofs.Writers.{has_count}
-use Rattle.text.proofs.Writing.{put-fits, tail_part, over_back}
-use Rattle.text.proofs.Over.{over-nil, over-over, over_then, length_over}
-
--- nothing
-pub wrote_nothing : (d : List ℕ) → Wrote [] d d 0
-wrote_nothing d = record { count_is = refl; left = sym (over-nil d 0) }
+use Rattle.text.proofs.Writing.{put-fits, tail_part}
+use Rattle.text.proofs.Over.{over-over, over_then, length_over}
 
 -- a text from the start on
 pub wrote_start : (d d₁ t : List ℕ) (number count : ℕ) → length t ≤ length d → outcome number count d₁ ≡ put d 0 t → Wrote t d d₁ count
@@ -134,16 +130,3 @@ module _ {d t u : List ℕ} {us : List (List ℕ)} {d₁ : List ℕ} {n : ℕ} (
       let k = chain_length a in
       let c = a.wrote.count_is in
       has_count size w d₁ d₂ u n (omega arith) e
-
--- ---- two texts, copied one after the other and read back
-
-pub copied : (begun more out d₁ d₂ : List ℕ) → length begun + length more ≤ length out
-    → (n₁ c₁ n₂ c₂ : ℕ) → outcome n₁ c₁ d₁ ≡ put out 0 begun → outcome n₂ c₂ d₂ ≡ put d₁ (length begun) more
-    → take (length begun + length more - 0) (drop 0 d₂) ≡ begun ++ more
-copied begun more out d₁ d₂ h n₁ c₁ n₂ c₂ e₁ e₂ =
-    let l = length-append begun more in
-    let w₁ = wrote_start out d₁ begun n₁ c₁ (omega arith) e₁ in
-    let c : length begun ≡ c₁ = sym w₁.count_is in
-    let w₂ = wrote_more out d₁ d₂ begun more c₁ n₂ c₂ (omega arith) w₁ (e₂ ∙ ap (λ (k : ℕ). put d₁ k more) c) in
-    let z : length begun + length more - 0 ≡ length (begun ++ more) = omega arith in
-    (λ i. take (z i) (w₂.left i)) ∙ over_back out (begun ++ more) 0 (omega arith)
