@@ -78,17 +78,18 @@ sextet_at t e i h = ltb-true _ _ (all_at in_alphabet t (canonical_alphabet t e) 
 
 -- ---- the encoder, group by group
 
-pub record EncodeGroup (b : List ℕ) : Type 0 where
-  pub size : length (take 4 (encode b)) ≡ 4
-  pub taken : encode (take 3 b) ≡ take 4 (encode b)
-  pub rest : encode b ≡ take 4 (encode b) ++ encode (drop 3 b)
+-- three bytes at the front, and those after them
+pub record EncodeGroup (b g after : List ℕ) : Type 0 where
+  pub size : length (encode g) ≡ 4
+  pub rest : encode b ≡ encode g ++ encode after
+  pub whole : 4 ≤ length (encode b)
 
-pub encode_group : (b : List ℕ) → 3 ≤ length b → EncodeGroup b
+pub encode_group : (b g after : List ℕ) → g ≡ take 3 b → after ≡ drop 3 b → 3 ≤ length b → EncodeGroup b g after
 unfolding encode
-encode_group [] h = absurd (omega arith)
-encode_group (x ∷ []) h = absurd (omega arith)
-encode_group (x ∷ y ∷ []) h = absurd (omega arith)
-encode_group (x ∷ y ∷ z ∷ b) h = record { size = refl; taken = refl; rest = refl }
+encode_group [] g after eg ea h = absurd (omega arith)
+encode_group (x ∷ []) g after eg ea h = absurd (omega arith)
+encode_group (x ∷ y ∷ []) g after eg ea h = absurd (omega arith)
+encode_group (x ∷ y ∷ z ∷ b) g after eg ea h = rw (eg, ea) (record { size = refl; rest = refl; whole = omega arith })
 
 pub encode-none : (b : List ℕ) → length b ≡ 0 → encode b ≡ []
 unfolding encode

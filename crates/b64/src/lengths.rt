@@ -13,11 +13,16 @@ pub fn decoded_len(n: Chars) -> Bytes
 }
 
 // The characters of B64 that so many bytes take. Free answer: the largest usize where that is more.
+// By saturating_mul and saturating_add, phc_write takes 5 to 14 instructions more.
 pub fn encoded_len(n: Bytes) -> Chars
     ensures { result.0 ≡ chars_within n.0 }
 {
     let k = n.0;
     let groups = k / 3;
-    let rest = (k % 3 * 4).div_ceil(3);
-    Chars(groups.saturating_mul(4).saturating_add(rest))
+    let rest = (k % 3 * 4 + 2) / 3;
+    if groups <= (usize::MAX - rest) / 4 {
+        Chars(groups * 4 + rest)
+    } else {
+        Chars(usize::MAX)
+    }
 }

@@ -8,7 +8,7 @@ use lib.ListN.{length, take, drop, length-append, length-drop}
 use lib.Seq.{take_at, drop_at, take-add, drop-drop, length-take-le, take-length, take-append_seam, drop-append_seam}
 use borrow.Rule.Slice.PartMut.{put_mid}
 use Rattle.text.specs.Place.{over}
-use Rattle.text.proofs.Writing.{tail_part, tail_over}
+use Rattle.text.proofs.Writing.{tail_over}
 
 -- d is d₀ with the first o elements of D written from its start, and R is what is left of D
 pub record Partly (D d₀ d : List ℕ) (o : ℕ) (R : List ℕ) : Type 0 where
@@ -60,22 +60,15 @@ partly_end D d₀ d o p =
     let e : o ≡ length D = omega (arith, p.done) in
     p.so_far ∙ ap (λ (k : ℕ). take k D ++ drop k d₀) e ∙ ap (λ (l : List ℕ). l ++ drop (length D) d₀) (take-length D)
 
--- A loop that turns t into F t, m elements into n at each turn, and lends the part of t from i and the part of d from o.
-module _ (F : List ℕ → List ℕ) (t d₀ d : List ℕ) (i o : ℕ) (p : Partly (F t) d₀ d o (F (drop i t))) (fit : length (F t) ≤ length d₀) where
-  pub lent_room : o + length (F (drop i t)) ≤ length d
+-- A loop that turns t into F t: u is what is left of t, and the part of d from o is lent.
+module _ (F : List ℕ → List ℕ) (t d₀ d : List ℕ) (o : ℕ) (u : List ℕ) (p : Partly (F t) d₀ d o (F u)) (fit : length (F t) ≤ length d₀) where
+  pub lent_room : o + length (F u) ≤ length d
   lent_room = omega (arith, p.done, p.keeps)
 
-  pub lent_turn : (m n : ℕ) (ys : List ℕ) → F (drop i t) ≡ take n (F (drop i t)) ++ F (drop m (drop i t)) → length (take n (F (drop i t))) ≡ n
-      → ys ≡ take n (F (take (length t - i) (drop i t))) ++ drop n (take (length d - o) (drop o d))
-      → Partly (F t) d₀ (put_mid o (length d - o) d ys) (o + n) (F (drop (i + m) t))
-  lent_turn m n ys law ln ey =
-      rw (ln, drop-drop m i t) at
-      (partly_lent (F t) d₀ d o (take n (F (drop i t))) (F (drop m (drop i t))) (rw (← law) p) fit ys (rw ln (rw (tail_part t i) at ey)))
+  pub lent_turn : (vs w ys : List ℕ) → F u ≡ vs ++ F w → ys ≡ vs ++ drop (length vs) (take (length d - o) (drop o d))
+      → Partly (F t) d₀ (put_mid o (length d - o) d ys) (o + length vs) (F w)
+  lent_turn vs w ys law ey = partly_lent (F t) d₀ d o vs (F w) (rw law at p) fit ys ey
 
-  pub lent_last : (ys : List ℕ)
-      → ys ≡ F (take (length t - i) (drop i t)) ++ drop (length (F (take (length t - i) (drop i t)))) (take (length d - o) (drop o d))
-      → put_mid o (length d - o) d ys ≡ F t ++ drop (length (F t)) d₀
+  pub lent_last : (ys : List ℕ) → ys ≡ F u ++ drop (length (F u)) (take (length d - o) (drop o d)) → put_mid o (length d - o) d ys ≡ F t ++ drop (length (F t)) d₀
   lent_last ys ey =
-      let R = F (drop i t) in
-      partly_end (F t) d₀ (put_mid o (length d - o) d ys) (o + length R)
-      (partly_lent (F t) d₀ d o R [] (rw append-nil p) fit ys (rw (tail_part t i) at ey))
+      partly_end (F t) d₀ (put_mid o (length d - o) d ys) (o + length (F u)) (partly_lent (F t) d₀ d o (F u) [] (rw append-nil p) fit ys ey)
