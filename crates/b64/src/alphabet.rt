@@ -1,5 +1,4 @@
-// The B64 alphabet, from bytes to sextets. A caller takes the table once, `let table = &SEXTETS;`, and hands it down:
-// a constant named in a small function is stored anew at each call.
+// The B64 alphabet, from bytes to sextets.
 
 // The sextet of each byte; 255 for a byte outside the alphabet.
 pub const SEXTETS: [u8; 256] = [

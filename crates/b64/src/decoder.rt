@@ -1,14 +1,13 @@
 // From B64 characters to bytes, into a lent buffer, by whole groups of four: a text that is judged first, or what stands at a place.
 ghost use Rattle.std.specs.Prelude.{◌≡◌, true, ◌++◌, ◌+◌, ◌*◌, ◌/◌, ◌≤◌, ◌<◌, length, get_or, drop};
 ghost use Rattle.text.specs.Place.{bytes_answered};
-ghost use Rattle.b64.specs.B64.{sextet, Sextets, canonical, decode, decoding};
+ghost use Rattle.b64.specs.B64.{sextet, canonical, decode, decoding};
 ghost use Rattle.b64.specs.Runs.{RunGives};
 ghost use Rattle.b64.specs.RunSteps.{Reached, Stopped};
 
-use crate::alphabet::SEXTETS;
 use crate::group_bytes::{four, put_group, put_one, put_three, put_two};
 use crate::lengths::decoded_len;
-use crate::sextets::{is_canonical_by, sextet_of};
+use crate::sextets::{SextetTable, is_canonical_by};
 use refusals::Refusal;
 use text::place::has_room;
 use text::units::{Bytes, Chars};
@@ -23,12 +22,11 @@ pub struct Run {
 }
 
 // The sextet at a place; 255 past the end, as for a byte outside the alphabet.
-fn sextet_at(table: &[u8; 256], s: &[u8], i: usize) -> u8
-    requires { Sextets table.now }
+fn sextet_at(table: SextetTable<'_>, s: &[u8], i: usize) -> u8
     ensures { result ≡ sextet (get_or s.now i 0) }
 {
     match s.get(i) {
-        Some(c) => sextet_of(table, *c),
+        Some(c) => table.sextet_of(*c),
         None => 255,
     }
 }
@@ -36,14 +34,13 @@ fn sextet_at(table: &[u8; 256], s: &[u8], i: usize) -> u8
 // Whole groups: four characters to three bytes, as many as stand at the place and fit. One bound for text and room.
 // By as_chunks and enumerate, phc_read_all takes 1 to 2 % more instructions.
 fn decode_groups(
-    table: &[u8; 256],
+    table: SextetTable<'_>,
     s: &[u8],
     at: usize,
     out: &mut [u8],
     from: usize,
 ) -> (usize, usize)
-    requires at_in_bounds { (at ≤ length s.now) × (from ≤ length out.old) }
-    requires sextets { Sextets table.now }
+    requires { (at ≤ length s.now) × (from ≤ length out.old) }
     ensures { Reached s.now at out.old from out.new result.0 result.1 × Stopped s.now out.new result.0 result.1 }
 {
     let last = at + ((s.len() - at) / 4).min((out.len() - from) / 3) * 4;
@@ -62,9 +59,8 @@ fn decode_groups(
 }
 
 // What stands after the whole groups: the last two or three characters of a canonical text, where they fit; anything else is left.
-fn decode_rest(table: &[u8; 256], s: &[u8], i: usize, out: &mut [u8], o: usize) -> Run
-    requires i_in_bounds { (i ≤ length s.now) × (o ≤ length out.old) × Stopped s.now out.old i o }
-    requires sextets { Sextets table.now }
+fn decode_rest(table: SextetTable<'_>, s: &[u8], i: usize, out: &mut [u8], o: usize) -> Run
+    requires { (i ≤ length s.now) × (o ≤ length out.old) × Stopped s.now out.old i o }
     ensures { RunGives s.now i out.old o out.new result }
 {
     let a = sextet_at(table, s, i);
@@ -123,16 +119,15 @@ pub fn decode_run(s: &[u8], at: usize, out: &mut [u8], from: usize) -> Run
             complete: true,
         };
     }
-    let table = &SEXTETS;
+    let table = SextetTable::new();
     let g = decode_groups(table, s, at, out, from);
     decode_rest(table, s, g.0, out, g.1)
 }
 
 // The groups of a canonical text, from the start of a buffer that has room for its bytes; two a turn, since one a turn takes 7 % more instructions.
-fn decode_pairs(table: &[u8; 256], text: &[u8], out: &mut [u8])
+fn decode_pairs(table: SextetTable<'_>, text: &[u8], out: &mut [u8])
     requires text_value { canonical text.now ≡ true }
     requires text_in_bounds { length (decode text.now) ≤ length out.old }
-    requires sextets { Sextets table.now }
     ensures { Reached text.now 0 out.old 0 out.new (length text.now / 4 * 4) (length text.now / 4 * 3) }
 {
     let (groups, _) = text.as_chunks::<4>();
@@ -147,10 +142,9 @@ fn decode_pairs(table: &[u8; 256], text: &[u8], out: &mut [u8])
 }
 
 // A canonical text, from the start of a buffer that has room for its bytes: its groups and the rest.
-fn decode_all(table: &[u8; 256], text: &[u8], out: &mut [u8])
+fn decode_all(table: SextetTable<'_>, text: &[u8], out: &mut [u8])
     requires text_value { canonical text.now ≡ true }
     requires text_in_bounds { length (decode text.now) ≤ length out.old }
-    requires sextets { Sextets table.now }
     ensures { out.new ≡ decode text.now ++ drop (length (decode text.now)) out.old }
 {
     decode_pairs(table, text, out);
@@ -162,7 +156,7 @@ fn decode_all(table: &[u8; 256], text: &[u8], out: &mut [u8])
 pub fn decode(text: &[u8], buf: &mut [u8], at: usize) -> Result<Bytes, Refusal>
     ensures { bytes_answered result buf.new ≡ decoding text.now buf.old at }
 {
-    let table = &SEXTETS;
+    let table = SextetTable::new();
     if !is_canonical_by(table, text) {
         return Err(Refusal::WrongBytes);
     }

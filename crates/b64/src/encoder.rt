@@ -1,51 +1,48 @@
 // From bytes to B64 characters, into a lent buffer.
 ghost use Rattle.std.specs.Prelude.{◌≡◌, ◌++◌, ◌+◌, ◌≤◌, ◌<◌, length, drop};
 ghost use Rattle.text.specs.Place.{chars_answered};
-ghost use Rattle.b64.specs.B64.{Letters, encode, encoding};
+ghost use Rattle.b64.specs.B64.{encode, encoding};
 
 use crate::lengths::encoded_len;
-use crate::letters::{LETTERS, letter_of};
+use crate::letters::LetterTable;
 use refusals::Refusal;
 use text::place::has_room;
 use text::units::{Bytes, Chars};
 
 // The four characters of three bytes, at the start of a buffer.
-fn encode_group(table: &[u8; 64], group: &[u8; 3], out: &mut [u8])
-    requires in_bounds { 4 ≤ length out.old }
-    requires letters { Letters table.now }
+fn encode_group(table: LetterTable<'_>, group: &[u8; 3], out: &mut [u8])
+    requires { 4 ≤ length out.old }
     ensures { out.new ≡ encode group.now ++ drop 4 out.old }
 {
     let [x, y, z] = *group;
-    out[0] = letter_of(table, x / 4);
-    out[1] = letter_of(table, x % 4 * 16 + y / 16);
-    out[2] = letter_of(table, y % 16 * 4 + z / 64);
-    out[3] = letter_of(table, z % 64);
+    out[0] = table.letter_of(x / 4);
+    out[1] = table.letter_of(x % 4 * 16 + y / 16);
+    out[2] = table.letter_of(y % 16 * 4 + z / 64);
+    out[3] = table.letter_of(z % 64);
 }
 
 // The rest after the whole groups: one or two bytes, or none.
-fn encode_rest(table: &[u8; 64], bytes: &[u8], out: &mut [u8])
+fn encode_rest(table: LetterTable<'_>, bytes: &[u8], out: &mut [u8])
     requires bytes_len_bound { length bytes.now < 3 }
     requires bytes_in_bounds { length (encode bytes.now) ≤ length out.old }
-    requires letters { Letters table.now }
     ensures { out.new ≡ encode bytes.now ++ drop (length (encode bytes.now)) out.old }
 {
     let [x, ..] = *bytes else {
         return;
     };
-    out[0] = letter_of(table, x / 4);
+    out[0] = table.letter_of(x / 4);
     if let [_, y, ..] = *bytes {
-        out[1] = letter_of(table, x % 4 * 16 + y / 16);
-        out[2] = letter_of(table, y % 16 * 4);
+        out[1] = table.letter_of(x % 4 * 16 + y / 16);
+        out[2] = table.letter_of(y % 16 * 4);
     } else {
-        out[1] = letter_of(table, x % 4 * 16);
+        out[1] = table.letter_of(x % 4 * 16);
     }
 }
 
 // All of the bytes, from the start of a buffer that has room for their characters.
 // By as_chunks, or with a match of three arms in encode_rest, phc_write takes about 20 instructions more.
-fn encode_all(table: &[u8; 64], bytes: &[u8], out: &mut [u8])
-    requires bytes_in_bounds { length (encode bytes.now) ≤ length out.old }
-    requires letters { Letters table.now }
+fn encode_all(table: LetterTable<'_>, bytes: &[u8], out: &mut [u8])
+    requires { length (encode bytes.now) ≤ length out.old }
     ensures { out.new ≡ encode bytes.now ++ drop (length (encode bytes.now)) out.old }
 {
     let mut rest = bytes;
@@ -62,7 +59,7 @@ fn encode_all(table: &[u8; 64], bytes: &[u8], out: &mut [u8])
 pub fn encode(bytes: &[u8], buf: &mut [u8], at: usize) -> Result<Chars, Refusal>
     ensures { chars_answered result buf.new ≡ encoding bytes.now buf.old at }
 {
-    let table = &LETTERS;
+    let table = LetterTable::new();
     let count = encoded_len(Bytes(bytes.len()));
     if !has_room(buf.len(), at, count.0) {
         return Err(Refusal::NoRoom);

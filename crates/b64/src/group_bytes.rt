@@ -1,36 +1,34 @@
 // The bytes of a group of four characters, and of the last two or three, stored at a place of a buffer that has room for them.
 ghost use Rattle.std.specs.Prelude.{◌+◌, ◌≤◌, ◌<◌, ◌≡◌, [], ◌∷◌, length, get_or};
 ghost use Rattle.text.specs.Place.{over};
-ghost use Rattle.b64.specs.B64.{sextet, Sextets};
+ghost use Rattle.b64.specs.B64.{sextet};
 ghost use Rattle.b64.specs.B64Steps.{group_at, three, two, one};
 
 use crate::groups::group;
-use crate::sextets::{bits, sextet_of};
+use crate::sextets::{SextetTable, bits};
 
 // The sextets of four characters.
-fn sextets_of(table: &[u8; 256], chars: &[u8; 4]) -> [u8; 4]
-    requires { Sextets table.now }
+fn sextets_of(table: SextetTable<'_>, chars: &[u8; 4]) -> [u8; 4]
     ensures { result ≡ sextet (get_or chars.now 0 0) ∷ sextet (get_or chars.now 1 0) ∷ sextet (get_or chars.now 2 0) ∷ sextet (get_or chars.now 3 0) ∷ [] }
 {
     let [a, b, c, d] = *chars;
     [
-        sextet_of(table, a),
-        sextet_of(table, b),
-        sextet_of(table, c),
-        sextet_of(table, d),
+        table.sextet_of(a),
+        table.sextet_of(b),
+        table.sextet_of(c),
+        table.sextet_of(d),
     ]
 }
 
 // The 24 bits of the four characters at a place; 2^24 where one is not of the alphabet.
-pub fn four(table: &[u8; 256], s: &[u8], i: usize) -> u32
-    requires i_in_bounds { i + 4 ≤ length s.now }
-    requires sextets { Sextets table.now }
+pub fn four(table: SextetTable<'_>, s: &[u8], i: usize) -> u32
+    requires { i + 4 ≤ length s.now }
     ensures { result ≡ group_at s.now i }
 {
-    let a = sextet_of(table, s[i]);
-    let b = sextet_of(table, s[i + 1]);
-    let c = sextet_of(table, s[i + 2]);
-    let d = sextet_of(table, s[i + 3]);
+    let a = table.sextet_of(s[i]);
+    let b = table.sextet_of(s[i + 1]);
+    let c = table.sextet_of(s[i + 2]);
+    let d = table.sextet_of(s[i + 3]);
     group(a, b, c, d)
 }
 
@@ -45,9 +43,8 @@ pub fn put_three(out: &mut [u8], o: usize, n: u32)
 }
 
 // The bytes of four characters that are known to be of the alphabet: nothing is tested again.
-pub fn put_group(table: &[u8; 256], chars: &[u8; 4], out: &mut [u8], o: usize)
-    requires in_bounds { (o + 3 ≤ length out.old) × (group_at chars.now 0 < 16777216) }
-    requires sextets { Sextets table.now }
+pub fn put_group(table: SextetTable<'_>, chars: &[u8; 4], out: &mut [u8], o: usize)
+    requires { (o + 3 ≤ length out.old) × (group_at chars.now 0 < 16777216) }
     ensures { out.new ≡ over out.old o (three (group_at chars.now 0)) }
 {
     let [a, b, c, d] = sextets_of(table, chars);

@@ -4,12 +4,28 @@ ghost use Rattle.text.specs.Text.{within, all};
 ghost use Rattle.b64.specs.B64.{sextet, Sextets, in_alphabet, low_bits_zero, canonical};
 ghost use Rattle.b64.specs.B64Steps.{bits_of};
 
-// The sextet of a byte, from the table.
-pub fn sextet_of(table: &[u8; 256], c: u8) -> u8
-    requires { Sextets table.now }
-    ensures { result ≡ sextet c }
-{
-    table[usize::from(c)]
+use crate::alphabet::SEXTETS;
+
+// A table of each byte's sextet. A caller takes it once and hands it down: a constant named in a small function is stored anew at each call.
+#[derive(Clone, Copy)]
+pub struct SextetTable<'a> {
+    entries: &'a [u8; 256],
+    ghost holds_sextets: { Sextets entries.now },
+}
+
+impl SextetTable<'static> {
+    pub fn new() -> Self {
+        SextetTable { entries: &SEXTETS }
+    }
+}
+
+impl SextetTable<'_> {
+    // The sextet of a byte.
+    pub fn sextet_of(self, c: u8) -> u8
+        ensures { result ≡ sextet c }
+    {
+        self.entries[usize::from(c)]
+    }
 }
 
 // Four numbers of six bits as one of 24.
@@ -45,22 +61,20 @@ fn all_in_alphabet(text: &[u8]) -> bool
 }
 
 // The length leaves no single character, and the unused low bits of the last one are zero.
-fn has_canonical_end(table: &[u8; 256], text: &[u8]) -> bool
-    requires { Sextets table.now }
+fn has_canonical_end(table: SextetTable<'_>, text: &[u8]) -> bool
     ensures { result ≡ (not (eqb (length text.now % 4) 1) && low_bits_zero text.now) }
 {
     let (_, rest) = text.as_chunks::<4>();
     match rest {
         [] => true,
         [_] => false,
-        [_, b] => sextet_of(table, *b) % 16 == 0,
-        [_, _, c, ..] => sextet_of(table, *c) % 4 == 0,
+        [_, b] => table.sextet_of(*b) % 16 == 0,
+        [_, _, c, ..] => table.sextet_of(*c) % 4 == 0,
     }
 }
 
 // is_canonical, with the table lent.
-pub fn is_canonical_by(table: &[u8; 256], text: &[u8]) -> bool
-    requires { Sextets table.now }
+pub fn is_canonical_by(table: SextetTable<'_>, text: &[u8]) -> bool
     ensures { result ≡ canonical text.now }
 {
     all_in_alphabet(text) && has_canonical_end(table, text)

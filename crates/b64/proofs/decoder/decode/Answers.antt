@@ -6,7 +6,6 @@ use Rattle.text.proofs.Writers.{Asked, writer_full, writer_room, writer_done}
 use Rattle.b64.specs.B64.{canonical, decode, decode_number}
 use Rattle.b64.specs.Lengths.{bytes_of}
 use Rattle.b64.proofs.B64Laws.{length_decode}
-use Rattle.b64.proofs.TableRules.{sextets_rule}
 use Rattle.b64.proofs.decoder.decode.Goals as goal
 
 asked : (t buffer : List ℕ) (at n : ℕ) (b : Bool) → n ≡ bytes_of (length t) → b ≡ has_room (length buffer) at n → Asked buffer at (decode t) n b
@@ -15,16 +14,10 @@ asked t buffer at n b e h = record { counted = e ∙ sym (length_decode t); answ
 clear : (t : List ℕ) (b : Bool) → b ≡ canonical t → b ≡ true → decode_number t ≡ 0
 clear t b e h = ap (λ (b : Bool). cond b 0 12) (sym e ∙ h)
 
-pub is_canonical_by-requires : goal.is_canonical_by-requires
-is_canonical_by-requires c = sextets_rule
-
 pub decode_all-requires-clause-text_in_bounds : goal.decode_all-requires-clause-text_in_bounds
 decode_all-requires-clause-text_in_bounds c =
     let a = c.args in
     writer_room (asked a.text.now a.buf.now a.at _ _ c.decoded_len-count.ensures c.has_room.ensures) c.if-not-has_room.false
-
-pub decode_all-requires-clause-sextets : goal.decode_all-requires-clause-sextets
-decode_all-requires-clause-sextets c = sextets_rule
 
 pub returns-then-not-is_canonical_by : goal.returns-then-not-is_canonical_by
 returns-then-not-is_canonical_by c =

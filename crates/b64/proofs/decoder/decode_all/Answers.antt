@@ -3,8 +3,8 @@ use native.Mathlib.Omega.{arith}
 use Rattle.b64.proofs.RunLaws.{stopped_end, reached_run, all-decoded}
 use Rattle.b64.proofs.decoder.decode_all.Goals as goal
 
-pub decode_rest-requires-clause-i_in_bounds : goal.decode_rest-requires-clause-i_in_bounds
-decode_rest-requires-clause-i_in_bounds c =
+pub decode_rest-requires : goal.decode_rest-requires
+decode_rest-requires c =
     let r = c.decode_pairs.ensures in
     (r.inside, r.room, stopped_end c.args.text.now 0 c.args.out.now 0 _ _ _ r (omega arith))
 

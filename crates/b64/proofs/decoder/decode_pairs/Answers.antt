@@ -10,8 +10,8 @@ use Rattle.b64.proofs.decoder.decode_pairs.Goals as goal
 pub loop-k-init : goal.loop-k-init
 loop-k-init c = reached_start c.args.text.now 0 c.args.out.now 0 (omega arith) (omega arith)
 
-pub put_group-requires-clause-in_bounds : goal.put_group-requires-clause-in_bounds
-put_group-requires-clause-in_bounds c =
+pub put_group-requires : goal.put_group-requires
+put_group-requires c =
     let t = c.args.text.now in
     let l = c.loop-k in
     let left : l.k * 8 + 4 ≤ length t = omega (arith, c.as_chunks.ensures.front_len, c.as_chunks-2.ensures.front_len) in
@@ -20,8 +20,8 @@ put_group-requires-clause-in_bounds c =
       omega (arith, e, group_in t c.requires.text_value (l.k * 8) left),
     )
 
-pub put_group-requires-in-loop-k-clause-in_bounds : goal.put_group-requires-in-loop-k-clause-in_bounds
-put_group-requires-in-loop-k-clause-in_bounds c =
+pub put_group-requires-in-loop-k : goal.put_group-requires-in-loop-k
+put_group-requires-in-loop-k c =
     let t = c.args.text.now in
     let l = c.loop-k in
     let left : l.k * 8 + 4 + 4 ≤ length t = omega (arith, c.as_chunks.ensures.front_len, c.as_chunks-2.ensures.front_len) in
@@ -47,8 +47,8 @@ loop-k-preserved c =
     c.put_group.new.out c.put_group-in-loop-k.new.out
     (rw (← e) c.put_group.ensures) (rw (← f) c.put_group-in-loop-k.ensures))
 
-pub put_group-requires-in-len1-up-clause-in_bounds : goal.put_group-requires-in-len1-up-clause-in_bounds
-put_group-requires-in-len1-up-clause-in_bounds c =
+pub put_group-requires-in-len1-up : goal.put_group-requires-in-len1-up
+put_group-requires-in-len1-up c =
     let t = c.args.text.now in
     let n = length c.as_chunks-2.result.0.now in
     let k : c.loop-k.k ≡ n = omega arith in

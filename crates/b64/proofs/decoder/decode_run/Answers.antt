@@ -1,5 +1,4 @@
 -- `b64::decoder::decode_run` meets its contract. Assumes nothing.
-use Rattle.b64.proofs.TableRules.{sextets_rule}
 use Rattle.b64.proofs.RunLaws.{gives_outside, gives_past, reached_run}
 use Rattle.b64.proofs.decoder.decode_run.Goals as goal
 
@@ -12,14 +11,6 @@ pub returns-then-s-at : goal.returns-then-s-at
 returns-then-s-at c =
     let g = c.args in
     gives_past g.s.now g.at g.out.now g.from c.if-out-from.false c.if-s-at.true
-
-pub decode_groups-g-requires-clause-sextets : goal.decode_groups-g-requires-clause-sextets
-decode_groups-g-requires-clause-sextets c =
-    sextets_rule
-
-pub decode_rest-requires-clause-sextets : goal.decode_rest-requires-clause-sextets
-decode_rest-requires-clause-sextets c =
-    sextets_rule
 
 pub returns : goal.returns
 returns c =

@@ -4,4 +4,4 @@ use Rattle.b64.proofs.encoder.encode_group.Goals as goal
 
 pub returns : goal.returns
 returns c = group_stored c.args.group.now c.args.out.now _ _ _ _ c.letter_of.ensures c.letter_of-2.ensures
-    c.letter_of-3.ensures c.letter_of-4.ensures c.told-group c.requires.in_bounds
+    c.letter_of-3.ensures c.letter_of-4.ensures c.told-group c.requires
