@@ -18,7 +18,7 @@ use text::units::{Bytes, Chars};
 // Room for the longest byte string, an output of 64 bytes.
 const LONGEST_PERMITTED: usize = 64;
 
-// A byte string of a string, from the start of a buffer on; none where it is absent or the string is refused.
+// The bytes of a byte string, decoded to the start of a buffer; none where it is absent or the string is refused.
 fn bytes_in<'a>(s: &[u8], choice: ByteString, buf: &'a mut [u8]) -> &'a [u8] {
     let count = byte_string(s, choice, buf, 0).unwrap_or(Bytes(0));
     front(buf, count)
