@@ -32,7 +32,14 @@ fn number(line: &[u8], index: usize) -> usize {
 
 // How many places hold what they held.
 fn kept(slice: &[u8]) -> usize {
-    slice.iter().filter(|b| **b == UNWRITTEN).count()
+    // `filter` and `count` take a quarter more time, and `fold` half as much again.
+    let mut count = 0usize;
+    for b in slice {
+        if *b == UNWRITTEN {
+            count = count.saturating_add(1);
+        }
+    }
+    count
 }
 
 fn show_batch<W: Write>(out: &mut W, answer: Result<Batch, Refusal>, slice: &[u8]) {
@@ -60,7 +67,8 @@ fn row<W: Write>(out: &mut W, line: &[u8]) {
 
 fn main(rt: HostRuntime) {
     let mut out = rt.stdout();
-    let input = Filled::<INPUT>::read(&mut rt.stdin());
+    let mut input = Filled::<INPUT>::new();
+    input.fill(&mut rt.stdin());
     show(
         &mut out,
         b"text in hex\tfrom\tlimit\tslots\tnumber\tplace\tcount\tanswers\tkept\n",

@@ -76,7 +76,8 @@ fn row<W: Write>(out: &mut W, line: &[u8]) {
 
 fn main(rt: HostRuntime) {
     let mut out = rt.stdout();
-    let input = Filled::<INPUT>::read(&mut rt.stdin());
+    let mut input = Filled::<INPUT>::new();
+    input.fill(&mut rt.stdin());
     show(
         &mut out,
         b"text\tnumber\tkind\tid\tversion\tm\tt\tp\tkeyid\tdata\tsalt\toutput\tno_room\n",

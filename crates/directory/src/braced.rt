@@ -5,6 +5,7 @@ ghost use Rattle.directory.specs.Braced.{dollar_string};
 ghost use Rattle.directory.specs.BracedSteps.{prefix_length, is_braced};
 
 use crate::limits::PREFIX_LEN;
+use text::place::write_text;
 
 // Whether a text goes on after one of the two prefixes.
 pub fn is_braced(t: &[u8]) -> bool
@@ -31,7 +32,7 @@ pub fn dollar_string<'a>(t: &[u8], out: &'a mut [u8]) -> &'a [u8]
     ensures { dollar_string t.now ≡ some result.now }
 {
     let string = &mut out[..t.len()];
-    string.copy_from_slice(t);
+    let _ = write_text(t, string, 0);
     mark(string, b'$', b'$');
     string
 }

@@ -17,7 +17,7 @@ pub fn name_and_value(item: &[u8]) -> (&[u8], &[u8])
 {
     match item.iter().position(|&c| c == b'=') {
         Some(at) => (&item[..at], &item[at + 1..]),
-        None => (item, &[]),
+        None => (item, &item[..0]),
     }
 }
 

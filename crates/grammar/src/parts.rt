@@ -13,7 +13,7 @@ pub fn piece(s: &[u8], which: Piece) -> &[u8]
 {
     match read(s) {
         Ok(layout) => part(s, span_of(layout.places, which)),
-        Err(_) => &[],
+        Err(_) => &s[..0],
     }
 }
 

@@ -62,6 +62,6 @@ pub fn part(s: &[u8], span: Span) -> &[u8]
     if has_room(s.len(), span.at, span.len.0) {
         &s[span.at..span.at + span.len.0]
     } else {
-        &[]
+        &s[..0]
     }
 }

@@ -18,22 +18,24 @@ const UNWRITTEN: &[u8] =
 fn take_some<R: Read, W: Write>(
     reader: &mut R,
     writer: &mut W,
-    rows: &mut Rows<ROOM>,
+    rows: &mut Rows,
+    out: &mut [u8],
     buf: &mut [u8],
 ) -> io::Result<bool> {
     let n = reader.read(buf)?;
-    Ok(n > 0 && rows.take_part(writer, &buf[..n]).is_ok())
+    Ok(n > 0 && rows.take_part(writer, out, &buf[..n]).is_ok())
 }
 
 // The parts after the first, until there are no more or one can't be read.
 fn take_all<R: Read, W: Write>(
     reader: &mut R,
     writer: &mut W,
-    rows: &mut Rows<ROOM>,
+    rows: &mut Rows,
+    out: &mut [u8],
     buf: &mut [u8],
 ) -> io::Result<()> {
     for _ in 0..u64::MAX {
-        if !take_some(reader, writer, rows, buf)? {
+        if !take_some(reader, writer, rows, out, buf)? {
             return Ok(());
         }
     }
@@ -57,23 +59,24 @@ fn main(rt: HostRuntime) {
     let mut reader = rt.stdin();
     let mut writer = rt.stdout();
     let mut err = rt.stderr();
-    let mut rows = Rows::<ROOM>::new();
+    let mut out = space();
     let mut buf = space();
+    let mut rows = Rows::new(&mut out);
     // An input that can't be read at all has no listing, not even the header.
-    let Ok(more) = take_some(&mut reader, &mut writer, &mut rows, &mut buf) else {
+    let Ok(more) = take_some(&mut reader, &mut writer, &mut rows, &mut out, &mut buf) else {
         let _ = err.write_all(UNREAD);
         return;
     };
     let read = if more {
-        take_all(&mut reader, &mut writer, &mut rows, &mut buf)
+        take_all(&mut reader, &mut writer, &mut rows, &mut out, &mut buf)
     } else {
         Ok(())
     };
     // Only where the input ended is the unfinished line a last line.
     let written = if read.is_ok() {
-        rows.finish(&mut writer)
+        rows.finish(&mut writer, &mut out)
     } else {
-        rows.flush_rows(&mut writer)
+        rows.flush_rows(&mut writer, &out)
     };
     report(&mut err, read, UNREAD);
     report(&mut err, written, UNWRITTEN);

@@ -1,8 +1,8 @@
 -- Batches as a C program sees them: place and count in the result, or 17.
 -- Assumes nothing.
-use Prim.Native.Nat.{ℕ, ◌/◌, ◌%◌, ◌≤◌, ◌<◌}
+use Prim.Native.Nat.{ℕ, ◌≤◌, ◌<◌}
 use mathlib.Core.Bool.{Bool, true, false, not, cond}
-use mathlib.Core.List.{List, [], ◌∷◌}
+use mathlib.Core.List.{List}
 use mathlib.Core.Logic.{◌≢◌}
 use mathlib.Core.Path.{◌≡◌, refl, sym, ap, ◌∙◌}
 use native.Mathlib.Decide.{dec_le}
@@ -10,7 +10,6 @@ use native.Mathlib.Omega.{arith}
 use lib.Dec.{eqb}
 use lib.ListN.{length}
 use borrow.Author.Tests.{eqb-false}
-use Rattle.std.specs.Int.{w64, to_le_bytes}
 use Rattle.text.specs.Place.{Outcome, refused, over}
 use Rattle.text.specs.Units.{largest_usize}
 use Rattle.text.proofs.LittleEndian.{back64}
@@ -20,16 +19,8 @@ use Rattle.accounts.specs.Batches.{batch_count, BatchOutcome, batch_outcome, jud
 use Rattle.accounts.specs.Batches.{BatchAnswer}
 use Rattle.accounts.proofs.Claims.{batch_claims}
 use Rattle.phc.specs.Records.{is_refusal}
-use Rattle.phc.specs.Batches.{bytes64, number64, batch_bytes, batch_length, recorded_batch, JudgeOutcome, judge_outcome, given_batch, recorded_judging}
+use Rattle.phc.specs.Batches.{number64, batch_bytes, batch_length, recorded_batch, JudgeOutcome, judge_outcome, given_batch, recorded_judging}
 use Rattle.phc.proofs.CodeLaws.{number_tells}
-
--- the library's bytes of a 64-bit number
-pub le_bytes64 : (n : ℕ) → to_le_bytes w64 n ≡ bytes64 n
-le_bytes64 n =
-    let a : n / 1099511627776 ≡ n / 4294967296 / 256 = omega arith in
-    let b : n / 281474976710656 ≡ n / 4294967296 / 65536 = omega arith in
-    let c : n / 72057594037927936 ≡ n / 4294967296 / 16777216 = omega arith in
-    λ i. n % 256 ∷ n / 256 % 256 ∷ n / 65536 % 256 ∷ n / 16777216 % 256 ∷ n / 4294967296 % 256 ∷ a i % 256 ∷ b i % 256 ∷ c i % 256 ∷ []
 
 module _ (text : List ℕ) (from limit : ℕ) (answers result : List ℕ) where
   -- the batch is refused with 17, or accepted

@@ -4,6 +4,7 @@ ghost use Rattle.accounts.specs.Batches.{batch_answer};
 ghost use Rattle.phc.specs.Batches.{batch_length, recorded_batch, judge_outcome, recorded_judging};
 
 use crate::code::refused;
+use crate::record::four_words;
 use accounts::batch::{Batch, judge_batch};
 use refusals::Refusal;
 
@@ -17,8 +18,8 @@ fn give_batch(answer: Result<Batch, Refusal>, res: &mut [u8]) -> u64
 {
     match answer {
         Ok(b) => {
-            res[..8].copy_from_slice(&b.place.to_le_bytes());
-            res[8..BATCH_LEN].copy_from_slice(&b.count.to_le_bytes());
+            let bytes = four_words(b.place, b.place / 4294967296, b.count, b.count / 4294967296);
+            res[..bytes.len()].copy_from_slice(&bytes);
             0
         }
         Err(refusal) => refused(refusal),

@@ -37,7 +37,7 @@ fn version_number(version: Version) -> u32
 }
 
 // Four numbers of 32 bits, little-endian; of a larger one its lowest 32 bits.
-fn four_words(a: usize, b: usize, c: usize, d: usize) -> [u8; 16]
+pub fn four_words(a: usize, b: usize, c: usize, d: usize) -> [u8; 16]
     ensures { result ≡ words a b c d }
 {
     let [a0, a1, a2, a3, ..] = a.to_le_bytes();

@@ -74,7 +74,8 @@ fn row<W: Write>(out: &mut W, s: &[u8]) {
 
 fn main(rt: HostRuntime) {
     let mut out = rt.stdout();
-    let input = Filled::<INPUT>::read(&mut rt.stdin());
+    let mut input = Filled::<INPUT>::new();
+    input.fill(&mut rt.stdin());
     show(
         &mut out,
         b"string\tnumber\tkind\tid\tversion\tm\tt\tp\tkeyid\tdata\tsalt\toutput\talgorithm\twritten\n",

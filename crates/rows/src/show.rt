@@ -23,19 +23,24 @@ const NO_FIELDS: NumberFields = NumberFields {
     p: 0,
 };
 
-// number, kind, id, version, m, t, p
-pub fn show_reading<W: Write>(out: &mut W, answer: Result<Record, Refusal>) {
-    let (kind, fields) = match answer {
-        Ok(record) => (record.kind.number(), record.fields),
-        Err(_) => (0, NO_FIELDS),
-    };
-    for n in [number_of(&answer), kind, fields.id] {
+// number, kind, id, version, m, t, p: any number and kind as they are
+pub fn show_fields<W: Write>(out: &mut W, number: u8, kind: u8, fields: NumberFields) {
+    for n in [number, kind, fields.id] {
         show_number(out, n);
     }
     show_version(out, fields.version);
     for n in [fields.m, fields.t, fields.p] {
         show_number(out, n);
     }
+}
+
+// Those of what a reader gives.
+pub fn show_reading<W: Write>(out: &mut W, answer: Result<Record, Refusal>) {
+    let (kind, fields) = match answer {
+        Ok(record) => (record.kind.number(), record.fields),
+        Err(_) => (0, NO_FIELDS),
+    };
+    show_fields(out, number_of(&answer), kind, fields);
 }
 
 // The bytes as hex digits.

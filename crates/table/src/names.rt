@@ -6,7 +6,7 @@ use grammar::places::{Span, part};
 use text::units::Chars;
 
 // Names stand at the indexes 1 to 5; the one at 0 is empty.
-const NAME_COUNT: usize = 6;
+pub const NAME_COUNT: usize = 6;
 
 // A name takes nine bytes: its length, its bytes, and zeros after a short one.
 const STRIDE: usize = 9;
@@ -21,11 +21,11 @@ pub fn name_at(names: &[u8], index: usize) -> &[u8]
     ensures { result.now ≡ name_in names.now index }
 {
     if NAME_COUNT <= index {
-        return &[];
+        return &names[..0];
     }
     let at = index * STRIDE;
     let Some(&len) = names.get(at) else {
-        return &[];
+        return &names[..0];
     };
     part(
         names,

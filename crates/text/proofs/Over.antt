@@ -1,16 +1,19 @@
 -- The laws of `over`: one text after another, one byte, and a text at the start of a buffer.
 -- Assumes nothing.
 use Prim.Native.Nat.{ℕ, ◌+◌, ◌-◌, ◌≤◌, ◌<◌}
-use mathlib.Core.Path.{◌≡◌, ap, ◌∙◌}
-use mathlib.Core.List.{List, [], ◌∷◌, ◌++◌, append_assoc}
-use native.Mathlib.Nat.{zero-add, add-zero, add_assoc}
+use mathlib.Core.Path.{◌≡◌, refl, sym, ap, ◌∙◌}
+use mathlib.Core.List.{List, [], ◌∷◌, ◌++◌, append_assoc, append-nil}
+use native.Mathlib.Nat.{zero-add, add-zero, add_assoc, le_of_eq}
 use native.Mathlib.Numerals.{add-one}
 use native.Mathlib.Omega.{arith}
-use lib.ListN.{length, take, drop, set, length-append, length-take, length-drop, take-append-drop}
+use lib.ListN.{length, take, drop, set, length-append, length-take, length-drop, take-append-drop, drop_of_length-le}
 use lib.Seq.{length-take-le, take_at, drop-append-add, drop-drop, set_split}
 use borrow.Rule.Slice.PartMut.{put_mid}
-use Rattle.text.specs.Place.{over}
-use Rattle.text.proofs.Writing.{tail_over}
+use Rattle.std.specs.Prelude.{Result, Ok, Err}
+use Rattle.refusals.specs.declared.Refusal.{Refusal}
+use Rattle.text.specs.Place.{Outcome, chars_answered, over, put}
+use Rattle.text.specs.declared.units.Chars.{Chars}
+use Rattle.text.proofs.Writing.{tail_over, put_done}
 
 -- nothing written
 pub over-nil : (d : List ℕ) (at : ℕ) → over d at [] ≡ d
@@ -54,3 +57,13 @@ over_then d d₁ at b t u ys f e p q =
 pub over_after : (out₀ out₁ out₂ : List ℕ) (from middle : ℕ) (a b : List ℕ) → from ≤ length out₀ → out₁ ≡ over out₀ from a → middle ≡ from + length a
     → out₂ ≡ over out₁ middle b → out₂ ≡ over out₀ from (a ++ b)
 over_after out₀ out₁ out₂ from middle a b h p q w = w ∙ rw (p, q) (over-over out₀ from a b h)
+
+-- put into a buffer of its own length, a text is what the buffer then holds
+pub put_whole : (d t left : List ℕ) (w : Result Chars Refusal) → length d ≡ length t → chars_answered w left ≡ put d 0 t → left ≡ t
+put_whole d t left w l e =
+    let written = put_done d 0 t (omega (arith, l)) (length t) refl (over d 0 t) refl in
+    held w ∙ ap (λ (o : Outcome). o.buffer) (e ∙ sym written) ∙ over_start d t ∙ rw (drop_of_length-le d (le_of_eq l)) (append-nil t)
+  where
+    held : (w : Result Chars Refusal) → left ≡ (chars_answered w left).buffer
+    held (Ok n) = refl
+    held (Err r) = refl

@@ -127,7 +127,8 @@ fn row<W: Write>(out: &mut W, line: &[u8]) {
 
 fn main(rt: HostRuntime) {
     let mut out = rt.stdout();
-    let input = Filled::<INPUT>::read(&mut rt.stdin());
+    let mut input = Filled::<INPUT>::new();
+    input.fill(&mut rt.stdin());
     for line in Lines(input.bytes()) {
         row(&mut out, line);
     }

@@ -1,14 +1,20 @@
 -- `directory::braced::dollar_string` meets its contract. Assumes nothing.
-use Rattle.std.proofs.Common.{length, arith}
+use Rattle.std.proofs.Common.{ap, length, arith}
 use lib.ListN.{length-take}
+use Rattle.text.proofs.Over.{put_whole}
 use Rattle.directory.proofs.Prefixes.{braced_length}
 use Rattle.directory.proofs.ReaderLaws.{held}
 use Rattle.directory.proofs.braced.dollar_string.Goals as goal
 
 pub mark-requires : goal.mark-requires
 mark-requires c =
-    let l = braced_length c.args.t.now c.requires.0 in
-    omega (arith, c.copy_from_slice.ensures.len, length-take (length c.args.t.now) c.args.out.now)
+    let a = c.args in
+    let l = braced_length a.t.now c.requires.0 in
+    let copied = put_whole _ a.t.now c.write_text.new.buf c.write_text.result (omega (arith, c.requires.1, length-take (length a.t.now) a.out.now)) c.write_text.ensures in
+    omega (arith, ap length copied, l)
 
 pub returns : goal.returns
-returns c = held c.args.t.now c.copy_from_slice.new.self c.mark.new.s c.requires.0 c.copy_from_slice.ensures.after c.mark.ensures
+returns c =
+    let a = c.args in
+    let copied = put_whole _ a.t.now c.write_text.new.buf c.write_text.result (omega (arith, c.requires.1, length-take (length a.t.now) a.out.now)) c.write_text.ensures in
+    held a.t.now c.write_text.new.buf c.mark.new.s c.requires.0 copied c.mark.ensures
